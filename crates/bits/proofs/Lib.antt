@@ -1,0 +1,4 @@
+pub mod BitLaw
+pub mod VoteLaw
+pub mod LinearLaw
+pub mod Table

@@ -1,0 +1,95 @@
+-- `ecc::check_byte` meets its contract. The invariant: with the columns of the bits to come, `s` is the check byte.
+use mathlib.Core.Path.{_≡_, refl, sym, ap, ap₂, _∙_}
+use mathlib.Core.Logic.{⊎-elim}
+use mathlib.Core.Bool.{Bool, true, false}
+use mathlib.Core.List.{List, [], _∷_}
+use Prim.Native.Nat.{ℕ, suc, _+_, _-_, _/_, _%_, _^_, _≤_, _<_}
+use native.Mathlib.Nat.{div-one}
+use native.Mathlib.Omega.{arith}
+use native.Mathlib.Numerals.{add-one}
+use borrow.Author.Needs.{needs}
+use lib.Bits.{bitXor, bitAnd, xor-zero-r}
+use lib.Pow.{shr-shr}
+use lib.ListN.{length, getD, take, drop}
+use lib.Seq.{drop-cons, getD-take}
+use Rattle.bits.specs.Bit.{bit, isOne}
+use Rattle.bits.specs.Linear.{syn, pick}
+use Rattle.bits.proofs.BitLaw.{xor-assoc, low-on, low-off}
+use Rattle.paper.specs.Parity.{columns, checkOf}
+use Rattle.ecc.proofs.check_byte.Statement.{statement}
+use Rattle.ecc.proofs.check_byte.Tie as tie
+use Rattle.ecc.proofs.check_byte.Reads as reads
+use Rattle.ecc.proofs.check_byte.Lts as lts
+
+-- one column and the rest
+step : (cs : List ℕ) (w i : ℕ) → i < length cs
+    → syn (drop i cs) (w / 2 ^ i) ≡ bitXor (pick (bit (w / 2 ^ i) 0) (getD cs i 0)) (syn (drop (i + 1) cs) (w / 2 ^ (i + 1)))
+unfolding syn
+step cs w i h =
+    ap (λ (l : List ℕ). syn l (w / 2 ^ i)) (drop-cons cs i 0 h)
+    ∙ ap₂ (λ (x : ℕ) (l : List ℕ). bitXor (pick (bit (w / 2 ^ i) 0) (getD cs i 0)) (syn l x)) (shr-shr w i 1)
+    (ap (λ (k : ℕ). drop k cs) (sym (add-one i)))
+
+-- a turn: the column at i goes into s where bit i is set
+turn : (w s s′ i : ℕ) → i < 64 → s′ ≡ bitXor s (pick (bit (w / 2 ^ i) 0) (getD columns i 0))
+    → bitXor s (syn (drop i (take 64 columns)) (w / 2 ^ i)) ≡ checkOf w
+    → bitXor s′ (syn (drop (i + 1) (take 64 columns)) (w / 2 ^ (i + 1))) ≡ checkOf w
+unfolding columns
+turn w s s′ i h e inv =
+    ap (λ (x : ℕ). bitXor x rest) (e ∙ ap (λ (x : ℕ). bitXor s (pick (bit (w / 2 ^ i) 0) x)) (sym (getD-take 64 columns i 0 h)))
+    ∙ xor-assoc s (pick (bit (w / 2 ^ i) 0) (getD (take 64 columns) i 0)) rest
+    ∙ ap (bitXor s) (sym (step (take 64 columns) w i h)) ∙ inv
+  where
+    rest : ℕ
+    rest = syn (drop (i + 1) (take 64 columns)) (w / 2 ^ (i + 1))
+
+abbrev Inv-loop : tie.InvT-loop
+Inv-loop «data» table s₀ i₀ s i =
+    (i ≤ 64) × (bitXor s (syn (drop i (take 64 columns)) («data» / 2 ^ i)) ≡ checkOf «data»)
+
+abbrev μ-loop : tie.MeasureT-loop
+μ-loop «data» table s₀ i₀ s i = 64 - i
+
+loop-holds : tie.Need-loop-holds Inv-loop μ-loop
+unfolding checkOf
+loop-holds c = (search needs, ap (syn (take 64 columns)) (div-one (c .args .«data»)))
+
+shr-if1 : tie.Need-shr-if1 Inv-loop μ-loop
+shr-if1 c = search needs
+
+array-read-s : tie.Need-array-read-s Inv-loop μ-loop
+array-read-s c = search needs
+
+add-i : tie.Need-add-i Inv-loop μ-loop
+add-i c = search needs
+
+loop-less : tie.Need-loop-less Inv-loop μ-loop
+loop-less c = search needs
+
+loop-again : tie.Need-loop-again Inv-loop μ-loop
+unfolding columns
+loop-again c =
+    let a = c .before .before in
+    let d = a .before .args .«data» in (
+      search needs,
+      turn d (a .loop .s) (c .if1 .s) (a .loop .i) (search needs)
+          (⊎-elim
+          (λ w. w .1 ∙ ap (λ (t : Bool). bitXor (a .loop .s) (pick t (getD columns (a .loop .i) 0))) (sym (low-on (d / 2 ^ a .loop .i) (w .0 .taken))))
+          (λ w. w .1 ∙ sym (xor-zero-r (a .loop .s)) ∙ ap (λ (t : Bool). bitXor (a .loop .s) (pick t (getD columns (a .loop .i) 0))) (sym (low-off (d / 2 ^ a .loop .i) (w .0 .left))))
+          (c .if1 .came))
+          (a .loop .inv .1),
+    )
+
+returns : tie.Need-returns Inv-loop μ-loop
+unfolding syn columns
+returns c =
+    let a = c .before in
+    let e : a .loop .i ≡ 64 = omega arith in
+    sym (xor-zero-r (a .loop .s))
+    ∙ ap (λ (k : ℕ). bitXor (a .loop .s) (syn (drop k (take 64 columns)) (a .before .args .«data» / 2 ^ k))) (sym e)
+    ∙ a .loop .inv .1
+
+pub check-byte-spec : {M : Type 1} → statement M
+check-byte-spec =
+    tie.close
+    (tie.spec Inv-loop μ-loop loop-holds shr-if1 array-read-s add-i loop-less loop-again returns)

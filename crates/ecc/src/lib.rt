@@ -1,0 +1,184 @@
+// (72,64) Hsiao SECDED, after ecc.rs: one check byte for each 64-bit word, in a plane beside the data.
+ghost use mathlib.Core.Path.{_≡_};
+ghost use mathlib.Core.Bool.{_&&_};
+ghost use Prim.Native.Nat.{ℕ, _+_, _<_, _≤_};
+ghost use lib.Dec.{eqb, ltb};
+ghost use lib.ListN.{length};
+ghost use Rattle.paper.specs.Parity.{columns, find, checkOf, outcome, planeKind};
+ghost use Rattle.paper.specs.Scan.{sliceWords, sliceWord, sliceScan};
+ghost use Rattle.ecc.specs.Answers.{asOutcome, asWord, asReport};
+
+// Number of check bits per word.
+pub const CHECK_BITS: usize = 8;
+
+// High bit that marks a kind as the parity plane of the kind below it.
+pub const ECC_KIND_BIT: u16 = 0x8000;
+
+pub fn plane_kind_for(kind: u16) -> u16
+    ensures { λ r. ⌜ r ≡ planeKind kind ⌝ }
+{
+    kind | ECC_KIND_BIT
+}
+
+// 64 data columns, then 8 check columns.
+const COLUMNS: [u8; 72] = [
+    7,
+    11,
+    13,
+    14,
+    19,
+    21,
+    22,
+    25,
+    26,
+    28,
+    35,
+    37,
+    38,
+    41,
+    42,
+    44,
+    49,
+    50,
+    52,
+    56,
+    67,
+    69,
+    70,
+    73,
+    74,
+    76,
+    81,
+    82,
+    84,
+    88,
+    97,
+    98,
+    100,
+    104,
+    112,
+    131,
+    133,
+    134,
+    137,
+    138,
+    140,
+    145,
+    146,
+    148,
+    152,
+    161,
+    162,
+    164,
+    168,
+    176,
+    193,
+    194,
+    196,
+    200,
+    208,
+    224,
+    31,
+    47,
+    55,
+    59,
+    61,
+    62,
+    79,
+    87,
+    1,
+    2,
+    4,
+    8,
+    16,
+    32,
+    64,
+    128,
+];
+
+// The exclusive-or of the columns of the set bits.
+pub fn check_byte(data: u64) -> u8
+    ensures { λ r. ⌜ r ≡ checkOf «data» ⌝ }
+{
+    let table = COLUMNS;
+    let mut s: u8 = 0;
+    let mut i: usize = 0;
+    while i < 64 {
+        if (data >> i) & 1 == 1 {
+            s ^= table[i];
+        }
+        i += 1;
+    }
+    s
+}
+
+// What a word and its check byte say.
+pub enum WordStatus {
+    Clean(u64),
+    Corrected(u64),
+    Uncorrectable,
+}
+
+// The place of the syndrome among the columns, or 72.
+fn column_of(syndrome: u8) -> usize
+    ensures { λ r. ⌜ (r ≡ find syndrome columns) × (r ≤ 72) ⌝ }
+{
+    let table = COLUMNS;
+    let mut i: usize = 0;
+    while i < 72 {
+        if table[i] == syndrome {
+            return i;
+        }
+        i += 1;
+    }
+    72
+}
+
+pub fn decode_word(data: u64, check: u8) -> WordStatus
+    ensures { λ r. ⌜ asOutcome r ≡ outcome «data» check ⌝ }
+{
+    let syndrome = check_byte(data) ^ check;
+    if syndrome == 0 {
+        return WordStatus::Clean(data);
+    }
+    if u8::count_ones(syndrome) % 2 == 1 {
+        let i = column_of(syndrome);
+        if i < 64 {
+            return WordStatus::Corrected(data ^ (1u64 << i));
+        }
+        if i < 72 {
+            // A check bit took the hit; the data was never wrong.
+            return WordStatus::Corrected(data);
+        }
+    }
+    WordStatus::Uncorrectable
+}
+
+// What a scan found: words examined, words with a corrected fault, words with more faults than one.
+pub struct EccReport {
+    pub words: usize,
+    pub corrected: usize,
+    pub uncorrectable: usize,
+}
+
+impl EccReport {
+    // No word gave a syndrome. That is no proof that the words are undamaged: four flipped bits can cancel out.
+    pub fn is_clean(self) -> bool
+        ensures { λ r. ⌜ r ≡ eqb (self .corrected) 0 && eqb (self .uncorrectable) 0 ⌝ }
+    {
+        self.corrected == 0 && self.uncorrectable == 0
+    }
+
+    // There is damage that can be repaired.
+    pub fn needs_scrub(self) -> bool
+        ensures { λ r. ⌜ r ≡ ltb 0 (self .corrected) ⌝ }
+    {
+        self.corrected > 0
+    }
+}
+
+// One word of a plane's region, or nothing where the index lies outside the region or the plane.
+pub enum PlaneWord {
+    Word(WordStatus),
+    Nothing,
+}

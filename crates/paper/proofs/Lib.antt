@@ -1,0 +1,9 @@
+pub mod Figures
+pub mod CrcRegister
+pub mod CrcDivision
+pub mod CrcUnique
+pub mod CrcFigures
+pub mod ParityLaw
+pub mod BytesLaw
+pub mod LayoutLaw
+pub mod WalkLaw

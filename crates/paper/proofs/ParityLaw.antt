@@ -1,0 +1,188 @@
+-- The (72,64) code: its columns follow Hsiao's rule, one flipped bit is corrected and two are noticed. Assumes nothing.
+use mathlib.Core.Path.{_≡_, refl, sym, ap, ap₂, _∙_}
+use mathlib.Core.Bool.{Bool, true, false, _&&_, cond}
+use mathlib.Core.List.{List, [], _∷_}
+use Prim.Native.Nat.{ℕ, zero, suc, _+_, _-_, _*_, _/_, _%_, _^_, _≤_, _<_, zero-le, suc-le-suc}
+use native.Mathlib.Omega.{arith}
+use borrow.Author.Tests.{lt-ltb, ne-eqb, ltb-true, ltb-false}
+use lib.Dec.{T, eqb, ltb, eqb→eq}
+use lib.Bits.{bitXor, xor-self, xor-comm, xor-lt}
+use lib.Count.{ones}
+use lib.ListN.{length, getD, take}
+use lib.Seq.{getD-take}
+use lib.Pow.{pow-lt, pow-pos}
+use Rattle.bits.specs.Bit.{bit}
+use Rattle.bits.specs.Linear.{pick, syn}
+use Rattle.bits.proofs.BitLaw.{xor-assoc}
+use Rattle.bits.proofs.LinearLaw.{syn-flip, syn-xor, xor-undo, xor-eq, xor-right-comm}
+use Rattle.bits.proofs.Table.{every, entry}
+use Rattle.paper.specs.Parity.{columns, hsiao, heavy, units, find, isOdd, Class, clean, flipped, beyond, classOf, checkOf, syndrome, flipWord, flipCheck, decode, Outcome, cleanWord, correctedWord, uncorrectableWord, outcome, fixedWord, fixedCheck}
+
+-- ---- the columns: Hsiao's rule, all odd, all different
+
+pub columns-rule : columns ≡ hsiao
+unfolding columns hsiao heavy ones units
+columns-rule = refl
+
+oddly : ℕ → ℕ → Bool
+oddly i c = isOdd c
+
+T-true : (b : Bool) → T b → b ≡ true
+T-true true h = refl
+T-true false h = absurd h
+
+pub column-odd : (i : ℕ) → i < 72 → isOdd (getD columns i 0) ≡ true
+unfolding columns oddly isOdd ones every
+column-odd i h = T-true (isOdd (getD columns i 0)) (entry oddly columns tt i h)
+
+itself : ℕ → ℕ → Bool
+itself i c = eqb (find c columns) i
+
+pub find-column : (i : ℕ) → i < 72 → find (getD columns i 0) columns ≡ i
+unfolding columns itself find every
+find-column i h = eqb→eq (find (getD columns i 0) columns) i (entry itself columns tt i h)
+
+pub columns-differ : (i j : ℕ) → i < 72 → j < 72 → getD columns i 0 ≡ getD columns j 0 → i ≡ j
+columns-differ i j hi hj e = sym (find-column i hi) ∙ ap (λ (s : ℕ). find s columns) e ∙ find-column j hj
+
+unitary : ℕ → ℕ → Bool
+unitary j u = eqb (getD columns (64 + j) 0) (2 ^ j)
+
+eight : List ℕ
+eight = 0 ∷ 0 ∷ 0 ∷ 0 ∷ 0 ∷ 0 ∷ 0 ∷ 0 ∷ []
+
+pub unit-column : (j : ℕ) → j < 8 → getD columns (64 + j) 0 ≡ 2 ^ j
+unfolding columns eight unitary every
+unit-column j h = eqb→eq (getD columns (64 + j) 0) (2 ^ j) (entry unitary eight tt j h)
+
+pub column-nonzero : (i : ℕ) → i < 72 → getD columns i 0 ≡ 0 → ⊥
+unfolding find columns
+column-nonzero i h e = omega (arith, ap (λ (x : ℕ). find x columns) (sym e) ∙ find-column i h)
+
+-- ---- the check byte is linear
+
+pub check-linear : (w i : ℕ) → i < 64 → checkOf (bitXor w (2 ^ i)) ≡ bitXor (checkOf w) (getD columns i 0)
+unfolding checkOf
+check-linear w i h =
+    syn-flip (take 64 columns) w i ∙ ap (bitXor (syn (take 64 columns) w)) (getD-take 64 columns i 0 h)
+
+-- flipping bit i of the 72 moves the syndrome by column i
+pub syndrome-flip : (w c i : ℕ) → i < 72 → syndrome (flipWord i w) (flipCheck i c) ≡ bitXor (syndrome w c) (getD columns i 0)
+unfolding syndrome flipWord flipCheck
+syndrome-flip w c i h = go (ltb i 64) refl
+  where
+    go : (t : Bool) → ltb i 64 ≡ t
+        → bitXor (checkOf (cond t (bitXor w (2 ^ i)) w)) (cond t c (bitXor c (2 ^ (i - 64))))
+        ≡ bitXor (bitXor (checkOf w) c) (getD columns i 0)
+    go true e =
+        ap (λ (x : ℕ). bitXor x c) (check-linear w i (ltb-true i 64 e)) ∙ xor-right-comm (checkOf w) (getD columns i 0) c
+    go false e =
+        sym (xor-assoc (checkOf w) c (2 ^ (i - 64)))
+        ∙ ap (bitXor (bitXor (checkOf w) c))
+        (sym (unit-column (i - 64) (omega (arith, ltb-false i 64 e))) ∙ ap (λ (k : ℕ). getD columns k 0) (omega (arith, ltb-false i 64 e)))
+
+pub syndrome-matched : (w : ℕ) → syndrome w (checkOf w) ≡ 0
+unfolding syndrome
+syndrome-matched w = xor-self (checkOf w)
+
+pub flip-flip : (i w : ℕ) → flipWord i (flipWord i w) ≡ w
+unfolding flipWord
+flip-flip i w = go (ltb i 64)
+  where
+    go : (t : Bool) → cond t (bitXor (cond t (bitXor w (2 ^ i)) w) (2 ^ i)) (cond t (bitXor w (2 ^ i)) w) ≡ w
+    go true = xor-undo w (2 ^ i)
+    go false = refl
+
+-- ---- the classes
+
+pub class-zero : classOf 0 ≡ clean
+unfolding classOf
+class-zero = refl
+
+pub class-column : (i : ℕ) → i < 72 → classOf (getD columns i 0) ≡ flipped i
+unfolding classOf
+class-column i h =
+    rw (ne-eqb (getD columns i 0) 0 (column-nonzero i h), column-odd i h, find-column i h, lt-ltb i 72 h)
+
+find-none : (s : ℕ) (cs : List ℕ) → ((k : ℕ) → k < length cs → getD cs k 0 ≡ s → ⊥) → find s cs ≡ length cs
+unfolding find
+find-none s [] f = refl
+find-none s (c ∷ cs) f =
+    rw (ne-eqb c s (f 0 (suc-le-suc zero-le))) (ap suc (find-none s cs (λ k h. f (suc k) (suc-le-suc h))))
+
+-- neither 0 nor a column
+pub class-none : (s : ℕ) → (s ≡ 0 → ⊥) → ((k : ℕ) → k < 72 → getD columns k 0 ≡ s → ⊥) → classOf s ≡ beyond
+unfolding classOf columns
+class-none s z f = rw (ne-eqb s 0 z, find-none s columns f) (go (isOdd s))
+  where
+    go : (t : Bool) → cond (t && false) (flipped 72) beyond ≡ beyond
+    go true = refl
+    go false = refl
+
+-- how many of the n numbers from s on pass a test
+unfoldable pub howMany : (ℕ → Bool) → ℕ → ℕ → ℕ
+howMany t zero s = 0
+howMany t (suc n) s = cond (t s) 1 0 + howMany t n (suc s)
+
+unfoldable pub corrects : Class → Bool
+corrects clean = false
+corrects (flipped i) = true
+corrects beyond = false
+
+unfoldable pub isBeyond : Class → Bool
+isBeyond clean = false
+isBeyond (flipped i) = false
+isBeyond beyond = true
+
+-- of the 255 non-zero syndromes 72 correct and 183 don't
+pub syndromes : (howMany (λ s. corrects (classOf s)) 255 1 ≡ 72) × (howMany (λ s. isBeyond (classOf s)) 255 1 ≡ 183)
+unfolding howMany corrects isBeyond classOf isOdd ones find columns
+syndromes = (refl, refl)
+
+-- ---- what becomes of a word and its check byte
+
+pub decode-clean : (w : ℕ) → decode w (checkOf w) ≡ clean
+unfolding decode
+decode-clean w = rw (syndrome-matched w) class-zero
+
+-- any one flipped bit of the 72 decodes to the word
+pub single-flip : (w i : ℕ) → i < 72 → decode (flipWord i w) (flipCheck i (checkOf w)) ≡ flipped i
+unfolding decode
+single-flip w i h =
+    ap classOf (syndrome-flip w (checkOf w) i h ∙ ap (λ (x : ℕ). bitXor x (getD columns i 0)) (syndrome-matched w))
+    ∙ class-column i h
+
+pub single-flip-word : (w i : ℕ) → i < 72 → outcome (flipWord i w) (flipCheck i (checkOf w)) ≡ correctedWord w
+unfolding outcome
+single-flip-word w i h = rw (single-flip w i h, flip-flip i w)
+
+-- parity: a linear test that each column passes and no sum of two does
+parity : List ℕ
+parity = 1 ∷ 1 ∷ 1 ∷ 1 ∷ 1 ∷ 1 ∷ 1 ∷ 1 ∷ []
+
+odd : ℕ → ℕ → Bool
+odd i c = eqb (syn parity c) 1
+
+column-parity : (i : ℕ) → i < 72 → syn parity (getD columns i 0) ≡ 1
+unfolding columns odd syn parity bit every
+column-parity i h = eqb→eq (syn parity (getD columns i 0)) 1 (entry odd columns tt i h)
+
+two-even : (i j : ℕ) → i < 72 → j < 72 → syn parity (bitXor (getD columns i 0) (getD columns j 0)) ≡ 0
+two-even i j hi hj =
+    syn-xor parity (getD columns i 0) (getD columns j 0) ∙ ap₂ bitXor (column-parity i hi) (column-parity j hj)
+
+-- any two flipped bits are uncorrectable
+pub double-flip : (w i j : ℕ) → i < 72 → j < 72 → (i ≡ j → ⊥)
+    → decode (flipWord j (flipWord i w)) (flipCheck j (flipCheck i (checkOf w))) ≡ beyond
+unfolding decode
+double-flip w i j hi hj d =
+    ap classOf sum
+    ∙ class-none (bitXor (getD columns i 0) (getD columns j 0))
+    (λ z. d (columns-differ i j hi hj (xor-eq (getD columns i 0) (getD columns j 0) z)))
+    (λ k hk e. let z : _≡_ {A = ℕ} 1 0 = sym (column-parity k hk) ∙ ap (syn parity) e ∙ two-even i j hi hj in omega arith)
+  where
+    sum : syndrome (flipWord j (flipWord i w)) (flipCheck j (flipCheck i (checkOf w))) ≡ bitXor (getD columns i 0) (getD columns j 0)
+    sum =
+        syndrome-flip (flipWord i w) (flipCheck i (checkOf w)) j hj
+        ∙ ap (λ (x : ℕ). bitXor x (getD columns j 0))
+        (syndrome-flip w (checkOf w) i hi ∙ ap (λ (x : ℕ). bitXor x (getD columns i 0)) (syndrome-matched w))

@@ -1,0 +1,97 @@
+-- Laws for code that walks a list of entries from the front: what is left from i on, entry by entry. Assumes nothing.
+use mathlib.Core.Path.{_≡_, refl, sym, ap, ap₂, _∙_}
+use mathlib.Core.Bool.{Bool, true, false, not, _&&_, _||_, cond}
+use mathlib.Core.List.{List, [], _∷_, _++_}
+use mathlib.Core.Option.{Option, none, some}
+use Prim.Native.Nat.{ℕ, zero, suc, _+_, _*_, _≤_, _<_}
+use native.Mathlib.Nat.{le-of-suc-le-suc, not-suc-le-zero}
+use native.Mathlib.Numerals.{add-one}
+use borrow.Author.Tests.{eq-eqb, ne-eqb, lt-ltb, le-ltb}
+use lib.Dec.{eqb, ltb}
+use lib.ListN.{length, getD, drop}
+use Rattle.paper.specs.Refusals.{Verdict, fine, refuse, refuseIf, _then_}
+use Rattle.paper.specs.Layout.{Entry, end}
+use Rattle.paper.specs.Parse.{among, entriesVerdict}
+use Rattle.paper.specs.Views.{nth, firstThat}
+use Rattle.paper.specs.Scan.{isProtected, planeOf, found, regionPairs, pairsOver, visitsAny, Pair}
+
+-- ---- entry e stands at i
+
+module _ (es : List Entry) (i : ℕ) (e : Entry) (s : drop i es ≡ e ∷ drop (i + 1) es) where
+  pub among-here : (k : ℕ) → e .kind ≡ k → among k (drop i es) ≡ true
+  unfolding among
+  among-here k h = rw (s, eq-eqb (e .kind) k h)
+
+  pub among-next : (k : ℕ) → (e .kind ≡ k → ⊥) → among k (drop (i + 1) es) ≡ among k (drop i es)
+  unfolding among
+  among-next k h = rw (s, ne-eqb (e .kind) k h)
+
+  pub first-here : (t : Entry → Bool) → t e ≡ true → firstThat t (drop i es) ≡ some e
+  unfolding firstThat
+  first-here t h = rw (s, h)
+
+  pub first-next : (t : Entry → Bool) → t e ≡ false → firstThat t (drop (i + 1) es) ≡ firstThat t (drop i es)
+  unfolding firstThat
+  first-next t h = rw (s, h)
+
+  module _ (len : ℕ) where
+    pub verdict-past : len < end e → entriesVerdict len i (drop i es) ≡ refuse 7 i
+    unfolding entriesVerdict
+    verdict-past l = rw (s, lt-ltb len (end e) l)
+
+    pub verdict-twice : end e ≤ len → among (e .kind) (drop (i + 1) es) ≡ true → entriesVerdict len i (drop i es) ≡ refuse 8 (e .kind)
+    unfolding entriesVerdict
+    verdict-twice l a = rw (s, le-ltb len (end e) l, a)
+
+    pub verdict-next : end e ≤ len → among (e .kind) (drop (i + 1) es) ≡ false
+        → entriesVerdict len (i + 1) (drop (i + 1) es) ≡ entriesVerdict len i (drop i es)
+    unfolding entriesVerdict
+    verdict-next l a =
+        sym (rw (s, le-ltb len (end e) l, a) (ap (λ (k : ℕ). entriesVerdict len k (drop (i + 1) es)) (sym (add-one i))))
+
+    pub pairs-here : (all : List Entry)
+        → pairsOver len all (drop i es) ≡ cond (isProtected e) (regionPairs len all e) [] ++ pairsOver len all (drop (i + 1) es)
+    unfolding pairsOver
+    pairs-here all = rw s
+
+    pub visits-here : (all : List Entry)
+        → visitsAny len all (drop i es) ≡ (isProtected e && found (planeOf len all e)) || visitsAny len all (drop (i + 1) es)
+    unfolding visitsAny
+    visits-here all = rw s
+
+-- ---- nothing is left
+
+module _ (es : List Entry) (i : ℕ) (s : drop i es ≡ []) where
+  pub among-end : (k : ℕ) → among k (drop i es) ≡ false
+  unfolding among
+  among-end k = rw s
+
+  pub first-end : (t : Entry → Bool) → firstThat t (drop i es) ≡ none
+  unfolding firstThat
+  first-end t = rw s
+
+  pub verdict-end : (len : ℕ) → entriesVerdict len i (drop i es) ≡ fine
+  unfolding entriesVerdict
+  verdict-end len = rw s
+
+  pub pairs-end : (len : ℕ) (all : List Entry) → pairsOver len all (drop i es) ≡ []
+  unfolding pairsOver
+  pairs-end len all = rw s
+
+  pub visits-end : (len : ℕ) (all : List Entry) → visitsAny len all (drop i es) ≡ false
+  unfolding visitsAny
+  visits-end len all = rw s
+
+-- ---- entry i itself
+
+pub nth-in : (es : List Entry) (i : ℕ) (d : Entry) → i < length es → nth i es ≡ some (getD es i d)
+unfolding nth
+nth-in [] i d h = absurd (not-suc-le-zero h)
+nth-in (e ∷ es) zero d h = refl
+nth-in (e ∷ es) (suc i) d h = nth-in es i d (le-of-suc-le-suc h)
+
+pub nth-past : (es : List Entry) (i : ℕ) → length es ≤ i → nth i es ≡ none
+unfolding nth
+nth-past [] i h = refl
+nth-past (e ∷ es) zero h = absurd (not-suc-le-zero h)
+nth-past (e ∷ es) (suc i) h = nth-past es i (le-of-suc-le-suc h)

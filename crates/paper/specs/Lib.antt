@@ -1,0 +1,11 @@
+pub mod Bytes
+pub mod Refusals
+pub mod Layout
+pub mod Crc
+pub mod Parse
+pub mod Views
+pub mod Parity
+pub mod Scan
+pub mod Scrub
+pub mod Writer
+pub mod Mend

@@ -1,0 +1,103 @@
+-- Laid apart, and mend. (FORMAT 10)
+use mathlib.Core.Path.{_≡_}
+use mathlib.Core.Bool.{Bool, true, false, not, _&&_, _||_, cond}
+use mathlib.Core.List.{List, [], _∷_, _++_}
+use mathlib.Core.Option.{Option, none, some}
+use Prim.Native.Nat.{ℕ, zero, suc, _+_, _*_, _/_, _≤_, _<_}
+use lib.Dec.{eqb, ltb}
+use lib.ListN.{length, drop, set}
+use lib.Seq.{sets}
+use Rattle.paper.specs.Bytes.{at, wordAt, le, Bytes}
+use Rattle.paper.specs.Refusals.{overlappingRegions, Verdict, fine, refuse, _then_, refuseIf}
+use Rattle.paper.specs.Layout.{count, headerLength, header, directory, Entry, start}
+use Rattle.paper.specs.Parse.{parseVerdict}
+use Rattle.paper.specs.Parity.{Class, clean, flipped, beyond, flipWord, checkOf, fixedWord, fixedCheck}
+use Rattle.paper.specs.Scan.{Pair, Among, examined, classAt, Report, scan}
+
+-- ---- laid apart
+
+-- two non-empty regions share a byte
+unfoldable pub meets : Entry → Entry → Bool
+meets e f = (ltb 0 (e .words) && ltb 0 (f .words)) && (ltb (e .offset) (f .offset + f .words) && ltb (f .offset) (e .offset + e .words))
+
+unfoldable pub meetsAny : Entry → List Entry → Bool
+meetsAny e [] = false
+meetsAny e (f ∷ fs) = meets e f || meetsAny e fs
+
+-- a non-empty region starts inside the header of n entries
+unfoldable pub inHeader : ℕ → Entry → Bool
+inHeader n e = ltb 0 (e .words) && ltb (start e) (headerLength n)
+
+-- the first non-empty entry that starts inside the header or shares a byte with an earlier non-empty entry
+unfoldable pub apartVerdict : ℕ → ℕ → List Entry → List Entry → Verdict
+apartVerdict n i earlier [] = fine
+apartVerdict n i earlier (e ∷ es) =
+    refuseIf (inHeader n e || meetsAny e earlier) overlappingRegions i then
+    apartVerdict n (suc i) (e ∷ earlier) es
+
+unfoldable pub mendVerdict : List ℕ → Verdict
+mendVerdict x = parseVerdict x then apartVerdict (count x) 0 [] (directory x)
+
+-- ---- what mend leaves: y is x mended
+
+-- p is neither in the header, nor in an examined word, nor an examined word's check byte
+pub record Elsewhere (x : List ℕ) (p : ℕ) : Type 0 where
+  pub past : headerLength (count x) ≤ p
+  pub noWord : (q c : ℕ) → Among q c (examined x) → q ≡ p / 8 → ⊥
+  pub noCheck : (q c : ℕ) → Among q c (examined x) → c ≡ p → ⊥
+
+pub record Mended (x y : List ℕ) : Type 0 where
+  pub size : length y ≡ length x
+  pub bytes : Bytes y
+  -- all header copies become the vote
+  pub copies : (p : ℕ) → p < headerLength (count x) → at y p ≡ at (header x) p
+  -- each examined word becomes as scrub makes it
+  pub words : (q c : ℕ) → Among q c (examined x) → wordAt y q ≡ fixedWord (wordAt x q) (at x c)
+  -- its check byte matches if the word was corrected, and is kept if not
+  pub checks : (q c : ℕ) → Among q c (examined x) → at y c ≡ fixedCheck (wordAt x q) (at x c)
+  -- nothing else moves
+  pub others : (p : ℕ) → Elsewhere x p → at y p ≡ at x p
+
+-- ---- the same as a procedure: one examined word after the other
+
+-- a corrected word is written with its check byte
+abbrev pub storedPair : Class → Pair → List ℕ → List ℕ
+storedPair clean p x = x
+storedPair (flipped i) p x =
+    let v = flipWord i (wordAt x (p .word)) in
+    sets (set x (p .check) (checkOf v)) (8 * p .word) (le 8 v)
+storedPair beyond p x = x
+
+unfoldable pub fixAt : Pair → List ℕ → List ℕ
+fixAt p x = storedPair (classAt x p) p x
+
+unfoldable pub fixAll : List Pair → List ℕ → List ℕ
+fixAll [] x = x
+fixAll (p ∷ ps) x = fixAll ps (fixAt p x)
+
+unfoldable pub mendBytes : List ℕ → List ℕ
+mendBytes x = header x ++ drop (headerLength (count x)) (fixAll (examined x) x)
+
+-- ---- the answer
+
+-- the number of positions whose value changed
+unfoldable pub changed : List ℕ → List ℕ → ℕ
+changed [] y = 0
+changed (b ∷ x) [] = 0
+changed (b ∷ x) (v ∷ y) = cond (eqb b v) 0 1 + changed x y
+
+-- there is a report with no uncorrectable word
+abbrev pub wholeOf : Option Report → Bool
+wholeOf none = false
+wholeOf (some r) = eqb (r .uncorrectable) 0
+
+pub data Mending : Type 0 where
+  refusedMend : ℕ → ℕ → Mending
+  mended : List ℕ → Option Report → ℕ → Bool → Mending
+
+abbrev pub mendAs : Verdict → List ℕ → List ℕ → Option Report → Mending
+mendAs fine x y r = mended y r (changed x y) (wholeOf r)
+mendAs (refuse n d) x y r = refusedMend n d
+
+unfoldable pub mend : List ℕ → Mending
+mend x = mendAs (mendVerdict x) x (mendBytes x) (scan x)
