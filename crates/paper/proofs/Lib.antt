@@ -7,3 +7,5 @@ pub mod ParityLaw
 pub mod BytesLaw
 pub mod LayoutLaw
 pub mod WalkLaw
+pub mod CopiesLaw
+pub mod ParseLaw

@@ -1,25 +1,23 @@
 -- `ecc::check_byte` meets its contract. The invariant: with the columns of the bits to come, `s` is the check byte.
-use mathlib.Core.Path.{_≡_, refl, sym, ap, ap₂, _∙_}
+use mathlib.Core.Path.{_≡_, sym, ap, ap₂, _∙_}
 use mathlib.Core.Logic.{⊎-elim}
-use mathlib.Core.Bool.{Bool, true, false}
-use mathlib.Core.List.{List, [], _∷_}
-use Prim.Native.Nat.{ℕ, suc, _+_, _-_, _/_, _%_, _^_, _≤_, _<_}
+use mathlib.Core.Bool.{Bool}
+use mathlib.Core.List.{List}
+use Prim.Native.Nat.{ℕ, _+_, _-_, _/_, _^_, _≤_, _<_}
 use native.Mathlib.Nat.{div-one}
 use native.Mathlib.Omega.{arith}
 use native.Mathlib.Numerals.{add-one}
 use borrow.Author.Needs.{needs}
-use lib.Bits.{bitXor, bitAnd, xor-zero-r}
+use lib.Bits.{bitXor, xor-zero-r}
 use lib.Pow.{shr-shr}
 use lib.ListN.{length, getD, take, drop}
 use lib.Seq.{drop-cons, getD-take}
-use Rattle.bits.specs.Bit.{bit, isOne}
+use Rattle.bits.specs.Bit.{bit}
 use Rattle.bits.specs.Linear.{syn, pick}
 use Rattle.bits.proofs.BitLaw.{xor-assoc, low-on, low-off}
 use Rattle.paper.specs.Parity.{columns, checkOf}
 use Rattle.ecc.proofs.check_byte.Statement.{statement}
 use Rattle.ecc.proofs.check_byte.Tie as tie
-use Rattle.ecc.proofs.check_byte.Reads as reads
-use Rattle.ecc.proofs.check_byte.Lts as lts
 
 -- one column and the rest
 step : (cs : List ℕ) (w i : ℕ) → i < length cs
@@ -54,18 +52,6 @@ loop-holds : tie.Need-loop-holds Inv-loop μ-loop
 unfolding checkOf
 loop-holds c = (search needs, ap (syn (take 64 columns)) (div-one (c .args .«data»)))
 
-shr-if1 : tie.Need-shr-if1 Inv-loop μ-loop
-shr-if1 c = search needs
-
-array-read-s : tie.Need-array-read-s Inv-loop μ-loop
-array-read-s c = search needs
-
-add-i : tie.Need-add-i Inv-loop μ-loop
-add-i c = search needs
-
-loop-less : tie.Need-loop-less Inv-loop μ-loop
-loop-less c = search needs
-
 loop-again : tie.Need-loop-again Inv-loop μ-loop
 unfolding columns
 loop-again c =
@@ -92,4 +78,4 @@ returns c =
 pub check-byte-spec : {M : Type 1} → statement M
 check-byte-spec =
     tie.close
-    (tie.spec Inv-loop μ-loop loop-holds shr-if1 array-read-s add-i loop-less loop-again returns)
+    (tie.spec Inv-loop μ-loop loop-holds (λ c. search needs) (λ c. search needs) (λ c. search needs) (λ c. search needs) loop-again returns)

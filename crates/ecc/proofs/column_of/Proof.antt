@@ -1,6 +1,6 @@
 -- `ecc::column_of` meets its contract. The invariant: `s` is as far past `i` as it is in the columns from `i` on.
-use mathlib.Core.Path.{_≡_, refl, sym, ap, ap₂, _∙_}
-use mathlib.Core.List.{List, [], _∷_}
+use mathlib.Core.Path.{_≡_, sym, ap, _∙_}
+use mathlib.Core.List.{List}
 use Prim.Native.Nat.{ℕ, suc, _+_, _-_, _≤_, _<_}
 use native.Mathlib.Omega.{arith}
 use native.Mathlib.Numerals.{add-one}
@@ -11,8 +11,6 @@ use lib.Seq.{drop-cons}
 use Rattle.paper.specs.Parity.{columns, find}
 use Rattle.ecc.proofs.column_of.Statement.{statement}
 use Rattle.ecc.proofs.column_of.Tie as tie
-use Rattle.ecc.proofs.column_of.Reads as reads
-use Rattle.ecc.proofs.column_of.Lts as lts
 
 here : (s : ℕ) (cs : List ℕ) (i : ℕ) → i < length cs → getD cs i 0 ≡ s → find s (drop i cs) ≡ 0
 unfolding find
@@ -42,23 +40,11 @@ Inv-loop s table i₀ i = (i ≤ 72) × (i + find s (drop i columns) ≡ find s 
 abbrev μ-loop : tie.MeasureT-loop
 μ-loop s table i₀ i = 72 - i
 
-loop-holds : tie.Need-loop-holds Inv-loop μ-loop
-loop-holds c = omega arith
-
-array-read-if1 : tie.Need-array-read-if1 Inv-loop μ-loop
-array-read-if1 c = search needs
-
 returns : tie.Need-returns Inv-loop μ-loop
 unfolding columns
 returns c =
     let a = c .before .before in
     (found (a .before .args .syndrome) (a .loop .i) (search needs) (c .if1 .taken) (a .loop .inv .1), search needs)
-
-add-i : tie.Need-add-i Inv-loop μ-loop
-add-i c = search needs
-
-loop-less : tie.Need-loop-less Inv-loop μ-loop
-loop-less c = search needs
 
 loop-again : tie.Need-loop-again Inv-loop μ-loop
 unfolding columns
@@ -75,10 +61,10 @@ column-of-spec =
     (tie.spec
     Inv-loop
     μ-loop
-    loop-holds
-    array-read-if1
+    (λ c. omega arith)
+    (λ c. search needs)
     returns
-    add-i
-    loop-less
+    (λ c. search needs)
+    (λ c. search needs)
     loop-again
     returns-2)

@@ -1,16 +1,15 @@
 -- `ecc::decode_word` meets its contract: it goes by the cases of the syndrome's class.
-use mathlib.Core.Path.{_≡_, refl, sym, ap, _∙_}
-use mathlib.Core.Bool.{Bool, true, false, _&&_, cond}
+use mathlib.Core.Path.{_≡_, ap, _∙_}
 use Prim.Native.Nat.{ℕ, _*_, _%_, _^_, _≤_, _<_}
 use native.Mathlib.Nat.{one-mul}
 use native.Mathlib.Omega.{arith}
 use borrow.Author.Needs.{needs}
 use borrow.Author.Tests.{eq-eqb, ne-eqb, lt-ltb, le-ltb}
-use lib.Dec.{eqb, ltb, lit<}
+use lib.Dec.{lit<}
 use lib.Bits.{bitXor}
 use lib.Count.{ones}
 use lib.Pow.{shl-exact}
-use Rattle.paper.specs.Parity.{columns, find, isOdd, checkOf, syndrome, classOf, flipped, beyond, flipWord, decode, outcome, cleanWord, correctedWord, uncorrectableWord, outcomeAs}
+use Rattle.paper.specs.Parity.{columns, find, isOdd, checkOf, syndrome, classOf, flipWord, decode, outcome, cleanWord, correctedWord, uncorrectableWord}
 use Rattle.ecc.proofs.decode_word.Statement.{statement}
 use Rattle.ecc.proofs.decode_word.Tie as tie
 
@@ -43,19 +42,10 @@ in-check : (i w : ℕ) → 64 ≤ i → w ≡ flipWord i w
 unfolding flipWord
 in-check i w h = rw (le-ltb i 64 h)
 
-check-byte-requires : tie.Need-check-byte-requires
-check-byte-requires c κs = search needs
-
 returns : tie.Need-returns
 returns c =
     let k = c .before in
     is-clean (k .before .args .«data») (k .before .args .check) (k .check-byte .result) (k .check-byte .ensures) (c .if1 .taken)
-
-column-of-requires : tie.Need-column-of-requires
-column-of-requires c κs = search needs
-
-shl-t11 : tie.Need-shl-t11
-shl-t11 c = search needs
 
 returns-2 : tie.Need-returns-2
 returns-2 c =
@@ -93,10 +83,10 @@ pub decode-word-spec : {M : Type 1} → statement M
 decode-word-spec =
     tie.close
     (tie.spec
-    check-byte-requires
+    (λ c κs. search needs)
     returns
-    column-of-requires
-    shl-t11
+    (λ c κs. search needs)
+    (λ c. search needs)
     returns-2
     returns-3
     returns-4

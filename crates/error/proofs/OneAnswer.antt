@@ -1,0 +1,39 @@
+-- No two refusals have the same number and detail: they are read back from the two. Assumes nothing.
+use mathlib.Core.Path.{_≡_, refl, sym, ap₂, _∙_}
+use mathlib.Core.List.{List, [], _∷_}
+use Prim.Native.Nat.{ℕ}
+use lib.ListN.{getD}
+use Rattle.paper.specs.Refusals.{Verdict, refuse}
+use Rattle.error.specs.declared.Refusal.{Refusal}
+use Rattle.error.specs.declared.Refusal.the-variants.{Truncated, BadMagic, ForeignEndian, UnsupportedVersion, BadPrologueChecksum, TooManyRegions, RegionOutOfBounds, DuplicateRegion, BadRecordStride, Overflow, TooLarge, OverlappingRegions, NoRoom, BadPlan}
+use Rattle.error.specs.Refused.{numberOf, detailOf, asVerdict}
+
+-- the refusal of a number and a detail, by its place in the table; number 0 is none
+decode : ℕ → ℕ → Refusal
+decode n d =
+    getD
+    (Truncated ∷ Truncated ∷ BadMagic ∷ ForeignEndian ∷ UnsupportedVersion d ∷ BadPrologueChecksum ∷ TooManyRegions d ∷ RegionOutOfBounds d ∷ DuplicateRegion d ∷ BadRecordStride ∷ Overflow ∷ TooLarge ∷ OverlappingRegions d ∷ NoRoom ∷ BadPlan d ∷ [])
+    n Truncated
+
+decoded : (r : Refusal) → decode (numberOf r) (detailOf r) ≡ r
+unfolding decode
+decoded Truncated = refl
+decoded BadMagic = refl
+decoded ForeignEndian = refl
+decoded (UnsupportedVersion d) = refl
+decoded BadPrologueChecksum = refl
+decoded (TooManyRegions d) = refl
+decoded (RegionOutOfBounds d) = refl
+decoded (DuplicateRegion d) = refl
+decoded BadRecordStride = refl
+decoded Overflow = refl
+decoded TooLarge = refl
+decoded (OverlappingRegions d) = refl
+decoded NoRoom = refl
+decoded (BadPlan d) = refl
+
+pub one-refusal : (a b : Refusal) → asVerdict a ≡ asVerdict b → a ≡ b
+one-refusal a b e =
+    let n : numberOf a ≡ numberOf b = cc in
+    let d : detailOf a ≡ detailOf b = cc in
+    sym (decoded a) ∙ ap₂ decode n d ∙ decoded b

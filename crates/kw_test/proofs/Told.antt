@@ -1,0 +1,20 @@
+-- The numbers of an answer that a `match` took apart: r is the answer, which stands for o, and s what the arm found it to be.
+-- Assumes nothing.
+use mathlib.Core.Path.{_≡_, refl, sym, ap, _∙_}
+use mathlib.Core.Bool.{Bool, true, false}
+use mathlib.Core.Option.{Option}
+use Prim.Native.Nat.{ℕ}
+use mir.Val.{boolByte}
+use Rattle.bits.specs.Bit.{num}
+use Rattle.kw_test.specs.Numbers.{asNumbers}
+
+pub told : {A : Type 0} (f : A → Option ℕ) {r s : A} {o : Option ℕ} → f r ≡ o → r ≡ s → asNumbers (f s) ≡ asNumbers o
+told f e d = ap asNumbers (sym (ap f d) ∙ e)
+
+-- a yes or no that is cast to a number
+pub counted : {t s : Bool} → t ≡ s → boolByte t ≡ num s
+counted {t} {s} e = ap boolByte e ∙ same s
+  where
+    same : (b : Bool) → boolByte b ≡ num b
+    same true = refl
+    same false = refl

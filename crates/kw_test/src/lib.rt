@@ -1,0 +1,145 @@
+// What host/compare calls to hold the leaves beside the Rust: each function here hands one of theirs on, with its
+// answer as numbers. A `&[u8]` is a pointer and a length to the caller, a `&mut [u64; 2]` one pointer.
+ghost use mathlib.Core.Path.{_≡_};
+ghost use Rattle.paper.specs.Bytes.{readIn, le};
+ghost use Rattle.paper.specs.Crc as checksum;
+ghost use Rattle.paper.specs.Layout.{wordsFor, headerBytes};
+ghost use Rattle.paper.specs.Layout as paper;
+ghost use Rattle.kw_test.specs.Numbers.{asNumbers, regionNumbers};
+use layout::Region;
+use layout::Size;
+use scalar::U8At;
+use scalar::U16At;
+use scalar::U32At;
+use scalar::U64At;
+
+// {1, the number}, or {0, 0} for nothing.
+#[no_mangle]
+pub extern "C" fn kwt_u8_at(b: &[u8], at: usize, answer: &mut [u64; 2])
+    ensures { λ _. ⌜ now (answer .exit) ≡ asNumbers (readIn 1 (now (b .entry)) at) ⌝ }
+{
+    match scalar::u8_at(b, at) {
+        U8At::Value(v) => *answer = [1, v as u64],
+        U8At::Nothing => *answer = [0, 0],
+    }
+}
+
+#[no_mangle]
+pub extern "C" fn kwt_u16_at(b: &[u8], at: usize, answer: &mut [u64; 2])
+    ensures { λ _. ⌜ now (answer .exit) ≡ asNumbers (readIn 2 (now (b .entry)) at) ⌝ }
+{
+    match scalar::u16_at(b, at) {
+        U16At::Value(v) => *answer = [1, v as u64],
+        U16At::Nothing => *answer = [0, 0],
+    }
+}
+
+#[no_mangle]
+pub extern "C" fn kwt_u32_at(b: &[u8], at: usize, answer: &mut [u64; 2])
+    ensures { λ _. ⌜ now (answer .exit) ≡ asNumbers (readIn 4 (now (b .entry)) at) ⌝ }
+{
+    match scalar::u32_at(b, at) {
+        U32At::Value(v) => *answer = [1, v as u64],
+        U32At::Nothing => *answer = [0, 0],
+    }
+}
+
+#[no_mangle]
+pub extern "C" fn kwt_u64_at(b: &[u8], at: usize, answer: &mut [u64; 2])
+    ensures { λ _. ⌜ now (answer .exit) ≡ asNumbers (readIn 8 (now (b .entry)) at) ⌝ }
+{
+    match scalar::u64_at(b, at) {
+        U64At::Value(v) => *answer = [1, v as u64],
+        U64At::Nothing => *answer = [0, 0],
+    }
+}
+
+#[no_mangle]
+pub extern "C" fn kwt_u8_bytes(v: u8, out: &mut [u8; 1])
+    ensures { λ _. ⌜ now (out .exit) ≡ le 1 v ⌝ }
+{
+    *out = scalar::u8_bytes(v);
+}
+
+#[no_mangle]
+pub extern "C" fn kwt_u16_bytes(v: u16, out: &mut [u8; 2])
+    ensures { λ _. ⌜ now (out .exit) ≡ le 2 v ⌝ }
+{
+    *out = scalar::u16_bytes(v);
+}
+
+#[no_mangle]
+pub extern "C" fn kwt_u32_bytes(v: u32, out: &mut [u8; 4])
+    ensures { λ _. ⌜ now (out .exit) ≡ le 4 v ⌝ }
+{
+    *out = scalar::u32_bytes(v);
+}
+
+#[no_mangle]
+pub extern "C" fn kwt_u64_bytes(v: u64, out: &mut [u8; 8])
+    ensures { λ _. ⌜ now (out .exit) ≡ le 8 v ⌝ }
+{
+    *out = scalar::u64_bytes(v);
+}
+
+#[no_mangle]
+pub extern "C" fn kwt_maj3(a: u8, b: u8, c: u8) -> u8
+    ensures { λ r. ⌜ r ≡ paper.maj3 a b c ⌝ }
+{
+    scalar::maj3(a, b, c)
+}
+
+#[no_mangle]
+pub extern "C" fn kwt_crc32(bytes: &[u8]) -> u32
+    ensures { λ r. ⌜ r ≡ checksum.crc32 (now (bytes .entry)) ⌝ }
+{
+    crc::crc32(bytes)
+}
+
+#[no_mangle]
+pub extern "C" fn kwt_words_for(bytes: usize, answer: &mut [u64; 2])
+    ensures { λ _. ⌜ now (answer .exit) ≡ asNumbers (wordsFor bytes) ⌝ }
+{
+    match layout::words_for(bytes) {
+        Size::Of(n) => *answer = [1, n as u64],
+        Size::Nothing => *answer = [0, 0],
+    }
+}
+
+#[no_mangle]
+pub extern "C" fn kwt_header_bytes(count: usize, answer: &mut [u64; 2])
+    ensures { λ _. ⌜ now (answer .exit) ≡ asNumbers (headerBytes count) ⌝ }
+{
+    match layout::header_bytes(count) {
+        Size::Of(n) => *answer = [1, n as u64],
+        Size::Nothing => *answer = [0, 0],
+    }
+}
+
+// {byte offset, byte length, encrypted, a plane, protected}, a yes as 1.
+#[no_mangle]
+pub extern "C" fn kwt_region(
+    kind: u16,
+    flags: u16,
+    word_offset: u32,
+    word_length: u32,
+    covers: u16,
+    answer: &mut [u64; 5],
+)
+    ensures { λ _. ⌜ now (answer .exit) ≡ regionNumbers flags «word_offset» «word_length» ⌝ }
+{
+    let r = Region {
+        kind,
+        flags,
+        word_offset,
+        word_length,
+        covers,
+    };
+    *answer = [
+        r.byte_offset() as u64,
+        r.byte_length() as u64,
+        r.is_encrypted() as u64,
+        r.is_ecc_plane() as u64,
+        r.has_ecc() as u64,
+    ];
+}

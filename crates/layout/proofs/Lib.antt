@@ -1,0 +1,3 @@
+pub mod FlagLaw
+pub mod RegionLaw
+pub mod OneAnswer

@@ -1,0 +1,105 @@
+// The container's constants, a directory entry as a value, and two sizes.
+ghost use mathlib.Core.Path.{_≡_};
+ghost use Prim.Native.Nat.{_*_};
+ghost use Rattle.paper.specs.Layout.{isEncrypted, isPlane, hasParity, wordsFor, headerBytes};
+ghost use Rattle.layout.specs.Sizes.{asPaper};
+
+// Bytes of a word. Every region and record is a whole number of words.
+pub const WORD: usize = 8;
+
+pub const MAGIC: u32 = 0x4B41_5558;
+
+// The byte-order marker.
+pub const BOM: u16 = 0xFEFF;
+
+pub const FORMAT_VERSION: u16 = 2;
+
+pub const PROLOGUE_BYTES: usize = 16;
+
+pub const DIR_ENTRY_BYTES: usize = 16;
+
+// Of the prologue, and of the directory.
+pub const COPIES: usize = 3;
+
+// Where the first copy of the directory starts.
+pub const DIRECTORY_OFFSET: usize = PROLOGUE_BYTES * COPIES;
+
+pub const MAX_REGIONS: usize = 1024;
+
+pub const FLAG_ENCRYPTED: u16 = 1 << 0;
+
+pub const FLAG_ECC_PRESENT: u16 = 1 << 1;
+
+pub const FLAG_OPTIONAL: u16 = 1 << 2;
+
+pub const FLAG_IS_ECC: u16 = 1 << 3;
+
+const LARGEST: usize = 0xFFFF_FFFF_FFFF_FFFF;
+
+// A directory entry, without its reserved field.
+pub struct Region {
+    pub kind: u16,
+    pub flags: u16,
+    pub word_offset: u32,
+    pub word_length: u32,
+    // Of a parity plane: the kind of the region that it protects.
+    pub covers: u16,
+}
+
+impl Region {
+    pub fn byte_offset(self) -> usize
+        ensures { λ r. ⌜ r ≡ 8 * self .«word_offset» ⌝ }
+    {
+        self.word_offset as usize * WORD
+    }
+
+    pub fn byte_length(self) -> usize
+        ensures { λ r. ⌜ r ≡ 8 * self .«word_length» ⌝ }
+    {
+        self.word_length as usize * WORD
+    }
+
+    pub fn is_encrypted(self) -> bool
+        ensures { λ r. ⌜ r ≡ isEncrypted (self .flags) ⌝ }
+    {
+        self.flags & FLAG_ENCRYPTED != 0
+    }
+
+    pub fn is_ecc_plane(self) -> bool
+        ensures { λ r. ⌜ r ≡ isPlane (self .flags) ⌝ }
+    {
+        self.flags & FLAG_IS_ECC != 0
+    }
+
+    pub fn has_ecc(self) -> bool
+        ensures { λ r. ⌜ r ≡ hasParity (self .flags) ⌝ }
+    {
+        self.flags & FLAG_ECC_PRESENT != 0
+    }
+}
+
+// A number, or nothing where a usize does not hold it.
+pub enum Size {
+    Of(usize),
+    Nothing,
+}
+
+// Rounds a byte count up to a whole number of words.
+pub fn words_for(bytes: usize) -> Size
+    ensures { λ r. ⌜ asPaper r ≡ wordsFor bytes ⌝ }
+{
+    if LARGEST - (WORD - 1) < bytes {
+        return Size::Nothing;
+    }
+    Size::Of((bytes + (WORD - 1)) / WORD)
+}
+
+// The length in bytes of all copies of the prologue and of the directory.
+pub fn header_bytes(region_count: usize) -> Size
+    ensures { λ r. ⌜ asPaper r ≡ headerBytes «region_count» ⌝ }
+{
+    if (LARGEST - DIRECTORY_OFFSET) / (DIR_ENTRY_BYTES * COPIES) < region_count {
+        return Size::Nothing;
+    }
+    Size::Of(region_count * DIR_ENTRY_BYTES * COPIES + DIRECTORY_OFFSET)
+}

@@ -1,0 +1,19 @@
+-- `scalar::u64_from` meets its contract. Each index is inside by the `requires`. Assumes nothing.
+use mathlib.Core.Path.{sym, _∙_}
+use borrow.Author.Needs.{needs}
+use Rattle.paper.proofs.BytesLaw.{places-8}
+use Rattle.scalar.proofs.u64_from.Statement.{statement}
+use Rattle.scalar.proofs.u64_from.Tie as tie
+
+returns : tie.Need-returns
+returns c = c .join-8 .ensures ∙ sym (places-8 _ _)
+
+pub u64-from-spec : {M : Type 1} → statement M
+u64-from-spec =
+    tie.close
+    (tie.spec
+    (λ c. search needs) (λ c. search needs) (λ c. search needs) (λ c. search needs)
+    (λ c. search needs) (λ c. search needs) (λ c. search needs) (λ c. search needs)
+    (λ c. search needs) (λ c. search needs) (λ c. search needs) (λ c. search needs)
+    (λ c. search needs) (λ c. search needs) (λ c. search needs) (λ c κs. search needs)
+    returns)

@@ -1,0 +1,27 @@
+-- What a reader answers, as the number or nothing.
+use mathlib.Core.Option.{Option, none, some}
+use Prim.Native.Nat.{ℕ}
+use Rattle.scalar.specs.declared.U8At.{U8At}
+use Rattle.scalar.specs.declared.U8At.the-variants as u8-at
+use Rattle.scalar.specs.declared.U16At.{U16At}
+use Rattle.scalar.specs.declared.U16At.the-variants as u16-at
+use Rattle.scalar.specs.declared.U32At.{U32At}
+use Rattle.scalar.specs.declared.U32At.the-variants as u32-at
+use Rattle.scalar.specs.declared.U64At.{U64At}
+use Rattle.scalar.specs.declared.U64At.the-variants as u64-at
+
+abbrev pub asPaper8 : U8At → Option ℕ
+asPaper8 (u8-at.Value n) = some n
+asPaper8 u8-at.Nothing = none
+
+abbrev pub asPaper16 : U16At → Option ℕ
+asPaper16 (u16-at.Value n) = some n
+asPaper16 u16-at.Nothing = none
+
+abbrev pub asPaper32 : U32At → Option ℕ
+asPaper32 (u32-at.Value n) = some n
+asPaper32 u32-at.Nothing = none
+
+abbrev pub asPaper64 : U64At → Option ℕ
+asPaper64 (u64-at.Value n) = some n
+asPaper64 u64-at.Nothing = none

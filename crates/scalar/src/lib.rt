@@ -1,0 +1,181 @@
+// Little-endian numbers out of bytes and into bytes, and the vote over three bytes.
+// Every reader is total: where its bytes run past the end it answers `Nothing`, at any offset.
+ghost use mathlib.Core.Path.{_≡_};
+ghost use Prim.Native.Nat.{_+_, _*_, _≤_};
+ghost use lib.Dec.{leb};
+ghost use lib.ListN.{length};
+ghost use Rattle.bits.specs.Vote.{Majority};
+ghost use Rattle.paper.specs.Bytes.{read, readIn, le};
+ghost use Rattle.paper.specs.Layout as paper;
+ghost use Rattle.scalar.specs.Answers.{asPaper8, asPaper16, asPaper32, asPaper64};
+
+pub enum U8At {
+    Value(u8),
+    Nothing,
+}
+
+pub enum U16At {
+    Value(u16),
+    Nothing,
+}
+
+pub enum U32At {
+    Value(u32),
+    Nothing,
+}
+
+pub enum U64At {
+    Value(u64),
+    Nothing,
+}
+
+// Whether the n bytes from at on lie inside b. A difference, since at + n can be more than a usize holds.
+fn has(b: &[u8], at: usize, n: usize) -> bool
+    ensures { λ r. ⌜ r ≡ leb (at + n) (length (now (b .entry))) ⌝ }
+{
+    if b.len() < at {
+        return false;
+    }
+    n <= b.len() - at
+}
+
+pub fn u8_at(b: &[u8], at: usize) -> U8At
+    ensures { λ r. ⌜ asPaper8 r ≡ readIn 1 (now (b .entry)) at ⌝ }
+{
+    if !has(b, at, 1) {
+        return U8At::Nothing;
+    }
+    U8At::Value(b[at])
+}
+
+pub fn u16_at(b: &[u8], at: usize) -> U16At
+    ensures { λ r. ⌜ asPaper16 r ≡ readIn 2 (now (b .entry)) at ⌝ }
+{
+    if !has(b, at, 2) {
+        return U16At::Nothing;
+    }
+    U16At::Value(u16_from(b, at))
+}
+
+pub fn u32_at(b: &[u8], at: usize) -> U32At
+    ensures { λ r. ⌜ asPaper32 r ≡ readIn 4 (now (b .entry)) at ⌝ }
+{
+    if !has(b, at, 4) {
+        return U32At::Nothing;
+    }
+    U32At::Value(u32_from(b, at))
+}
+
+pub fn u64_at(b: &[u8], at: usize) -> U64At
+    ensures { λ r. ⌜ asPaper64 r ≡ readIn 8 (now (b .entry)) at ⌝ }
+{
+    if !has(b, at, 8) {
+        return U64At::Nothing;
+    }
+    U64At::Value(u64_from(b, at))
+}
+
+// The number of the 2 bytes from at on, which are there.
+fn u16_from(b: &[u8], at: usize) -> u16
+    requires { ⌜ at + 2 ≤ length (now b) ⌝ }
+    ensures { λ r. ⌜ r ≡ read 2 (now (b .entry)) at ⌝ }
+{
+    join_2(b[at], b[at + 1])
+}
+
+// The same of 4.
+fn u32_from(b: &[u8], at: usize) -> u32
+    requires { ⌜ at + 4 ≤ length (now b) ⌝ }
+    ensures { λ r. ⌜ r ≡ read 4 (now (b .entry)) at ⌝ }
+{
+    join_4(b[at], b[at + 1], b[at + 2], b[at + 3])
+}
+
+// The same of 8.
+fn u64_from(b: &[u8], at: usize) -> u64
+    requires { ⌜ at + 8 ≤ length (now b) ⌝ }
+    ensures { λ r. ⌜ r ≡ read 8 (now (b .entry)) at ⌝ }
+{
+    join_8(
+        b[at],
+        b[at + 1],
+        b[at + 2],
+        b[at + 3],
+        b[at + 4],
+        b[at + 5],
+        b[at + 6],
+        b[at + 7],
+    )
+}
+
+fn join_2(b0: u8, b1: u8) -> u16
+    ensures { λ r. ⌜ r ≡ b0 + b1 * 256 ⌝ }
+{
+    b0 as u16 + (b1 as u16) * 256
+}
+
+fn join_4(b0: u8, b1: u8, b2: u8, b3: u8) -> u32
+    ensures { λ r. ⌜ r ≡ b0 + b1 * 256 + b2 * 65536 + b3 * 16777216 ⌝ }
+{
+    b0 as u32 + (b1 as u32) * 256 + (b2 as u32) * 65536 + (b3 as u32) * 16_777_216
+}
+
+fn join_8(b0: u8, b1: u8, b2: u8, b3: u8, b4: u8, b5: u8, b6: u8, b7: u8) -> u64
+    ensures { λ r. ⌜ r ≡ b0 + b1 * 256 + b2 * 65536 + b3 * 16777216 + b4 * 4294967296 + b5 * 1099511627776
+        + b6 * 281474976710656 + b7 * 72057594037927936 ⌝ }
+{
+    b0 as u64
+        + (b1 as u64) * 256
+        + (b2 as u64) * 65536
+        + (b3 as u64) * 16_777_216
+        + (b4 as u64) * 4_294_967_296
+        + (b5 as u64) * 1_099_511_627_776
+        + (b6 as u64) * 281_474_976_710_656
+        + (b7 as u64) * 72_057_594_037_927_936
+}
+
+pub fn u8_bytes(v: u8) -> [u8; 1]
+    ensures { λ r. ⌜ r ≡ le 1 v ⌝ }
+{
+    [v]
+}
+
+pub fn u16_bytes(v: u16) -> [u8; 2]
+    ensures { λ r. ⌜ r ≡ le 2 v ⌝ }
+{
+    [(v % 256) as u8, ((v / 256) % 256) as u8]
+}
+
+pub fn u32_bytes(v: u32) -> [u8; 4]
+    ensures { λ r. ⌜ r ≡ le 4 v ⌝ }
+{
+    [
+        (v % 256) as u8,
+        ((v / 256) % 256) as u8,
+        ((v / 65536) % 256) as u8,
+        ((v / 16_777_216) % 256) as u8,
+    ]
+}
+
+pub fn u64_bytes(v: u64) -> [u8; 8]
+    ensures { λ r. ⌜ r ≡ le 8 v ⌝ }
+{
+    [
+        (v % 256) as u8,
+        ((v / 256) % 256) as u8,
+        ((v / 65536) % 256) as u8,
+        ((v / 16_777_216) % 256) as u8,
+        ((v / 4_294_967_296) % 256) as u8,
+        ((v / 1_099_511_627_776) % 256) as u8,
+        ((v / 281_474_976_710_656) % 256) as u8,
+        ((v / 72_057_594_037_927_936) % 256) as u8,
+    ]
+}
+
+// Each bit is what two or more of the three bytes have there.
+pub fn maj3(a: u8, b: u8, c: u8) -> u8
+    ensures { λ r. ⌜ r ≡ paper.maj3 a b c ⌝ }
+    ensures { λ r. ⌜ Majority a b c r ⌝ }
+{
+    (a & b) | (a & c) | (b & c)
+}

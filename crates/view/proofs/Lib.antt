@@ -1,0 +1,2 @@
+pub mod KindsLaw
+pub mod AnswersLaw

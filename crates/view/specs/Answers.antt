@@ -1,0 +1,40 @@
+-- The paper's reading of each answer. (FORMAT 5, 6)
+use mathlib.Core.Bool.{Bool, true, false}
+use Prim.Native.Nat.{ℕ}
+use Rattle.paper.specs.Refusals.{Verdict, fine, refuse}
+use Rattle.paper.specs.Parse.{Parsed, accepted, refused}
+use Rattle.error.specs.Refused.{numberOf, detailOf, asVerdict}
+use Rattle.view.specs.declared.header.Header.{Header}
+use Rattle.view.specs.declared.header.ParseResult.{ParseResult}
+use Rattle.view.specs.declared.header.ParseResult.the-variants as parse
+use Rattle.view.specs.declared.header.Check.{Check}
+use Rattle.view.specs.declared.header.Check.the-variants as check
+use Rattle.view.specs.declared.header.Counted.{Counted}
+use Rattle.view.specs.declared.header.Counted.the-variants as counted
+
+abbrev pub asCheck : Check → Verdict
+asCheck check.Fine = fine
+asCheck (check.Refuse r) = asVerdict r
+
+-- a verdict, with a count where it is fine
+pub data Answer : Type 0 where
+  fineWith : ℕ → Answer
+  refusedWith : ℕ → ℕ → Answer
+
+abbrev pub withCount : Verdict → ℕ → Answer
+withCount fine n = fineWith n
+withCount (refuse k d) n = refusedWith k d
+
+abbrev pub asCounted : Counted → Answer
+asCounted (counted.Count n) = fineWith n
+asCounted (counted.Refuse r) = refusedWith (numberOf r) (detailOf r)
+
+abbrev pub asParsed : ParseResult → Parsed
+asParsed (parse.Parsed h) =
+    accepted
+    (record {
+      regions = h .«region_count»;
+      prologueDisagreed = h .«prologue_disagreed»;
+      directoryDisagreed = h .«directory_disagreed»;
+    })
+asParsed (parse.Refused r) = refused (numberOf r) (detailOf r)

@@ -1,0 +1,14 @@
+-- The kinds of a run of entries, beside the entries. (FORMAT 5)
+use mathlib.Core.Bool.{Bool, true, false, _||_}
+use mathlib.Core.List.{List, [], _∷_}
+use Prim.Native.Nat.{ℕ}
+use lib.Dec.{eqb}
+use Rattle.paper.specs.Layout.{Entry}
+
+unfoldable pub kindsOf : List Entry → List ℕ
+kindsOf [] = []
+kindsOf (e ∷ es) = e .kind ∷ kindsOf es
+
+unfoldable pub elem : ℕ → List ℕ → Bool
+elem k [] = false
+elem k (x ∷ xs) = eqb x k || elem k xs

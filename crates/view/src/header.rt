@@ -1,0 +1,184 @@
+// Parse: the header's checks in their order. (FORMAT 5)
+ghost use mathlib.Core.Path.{_≡_};
+ghost use mathlib.Core.Bool.{_||_};
+ghost use Prim.Native.Nat.{ℕ, _+_, _*_, _<_, _≤_};
+ghost use lib.ListN.{length, take};
+ghost use Rattle.paper.specs.Layout.{headerLength, prologue, countIn, count, directoryOf, end};
+ghost use Rattle.paper.specs.Parse as paper;
+ghost use Rattle.paper.proofs.LayoutLaw.{entryIn};
+ghost use Rattle.view.specs.Answers.{asCheck, asCounted, withCount, asParsed};
+ghost use Rattle.view.specs.Kinds.{elem, kindsOf};
+use super::vote::copies_differ;
+use super::vote::voted_checksum;
+use super::vote::voted_u16;
+use super::vote::voted_u32;
+use error::Refusal;
+use layout::BOM;
+use layout::FORMAT_VERSION;
+use layout::MAGIC;
+
+// An accepted image's number of regions, and which header copies disagreed with their vote.
+pub struct Header {
+    pub region_count: u16,
+    pub prologue_disagreed: bool,
+    pub directory_disagreed: bool,
+}
+
+impl Header {
+    // Some header copy took damage: the vote outvotes it, and rewriting it restores the margin.
+    pub fn needs_scrub(self) -> bool
+        ensures { λ r. ⌜ r ≡ self .«prologue_disagreed» || self .«directory_disagreed» ⌝ }
+    {
+        self.prologue_disagreed || self.directory_disagreed
+    }
+}
+
+pub enum ParseResult {
+    Parsed(Header),
+    Refused(Refusal),
+}
+
+// What a run of checks says.
+pub(crate) enum Check {
+    Fine,
+    Refuse(Refusal),
+}
+
+// The same, with the number of regions where nothing is refused.
+pub(crate) enum Counted {
+    Count(u16),
+    Refuse(Refusal),
+}
+
+pub fn parse(bytes: &[u8]) -> ParseResult
+    ensures { λ r. ⌜ asParsed r ≡ paper.parse (now (bytes .entry)) ⌝ }
+{
+    let checked = check_header(bytes);
+    match checked {
+        Counted::Refuse(refusal) => ParseResult::Refused(refusal),
+        Counted::Count(n) => ParseResult::Parsed(Header {
+            region_count: n,
+            prologue_disagreed: copies_differ(bytes, 0, 16),
+            directory_disagreed: copies_differ(bytes, 48, 16 * (n as usize)),
+        }),
+    }
+}
+
+// All of parse but the marks.
+fn check_header(bytes: &[u8]) -> Counted
+    ensures { λ r. ⌜ asCounted r ≡ withCount (paper.parseVerdict (now (bytes .entry))) (count (now (bytes .entry))) ⌝ }
+{
+    if bytes.len() < 48 {
+        return Counted::Refuse(Refusal::Truncated);
+    }
+    let checked = check_prologue(bytes);
+    let Counted::Count(n) = checked else {
+        return checked;
+    };
+    if bytes.len() < 48 + 48 * (n as usize) {
+        return Counted::Refuse(Refusal::Truncated);
+    }
+    match check_directory(bytes, n as usize) {
+        Check::Fine => Counted::Count(n),
+        Check::Refuse(refusal) => Counted::Refuse(refusal),
+    }
+}
+
+// The voted prologue's fields; the count that it gives is at most 1024.
+fn check_prologue(bytes: &[u8]) -> Counted
+    requires { ⌜ 48 ≤ length (now bytes) ⌝ }
+    ensures { λ r. ⌜ asCounted r ≡ withCount (paper.prologueVerdict (prologue (now (bytes .entry)))) (count (now (bytes .entry))) ⌝ }
+{
+    if voted_u32(bytes, 0, 16, 0) != MAGIC {
+        return Counted::Refuse(Refusal::BadMagic);
+    }
+    if voted_u16(bytes, 0, 16, 4) != BOM {
+        return Counted::Refuse(Refusal::ForeignEndian);
+    }
+    let version = voted_u16(bytes, 0, 16, 6);
+    if version != FORMAT_VERSION {
+        return Counted::Refuse(Refusal::UnsupportedVersion { found: version });
+    }
+    if voted_u32(bytes, 0, 16, 12) != voted_checksum(bytes) {
+        return Counted::Refuse(Refusal::BadPrologueChecksum);
+    }
+    let n = voted_u16(bytes, 0, 16, 8);
+    if n > 1024 {
+        return Counted::Refuse(Refusal::TooManyRegions { found: n as usize });
+    }
+    Counted::Count(n)
+}
+
+fn check_directory(bytes: &[u8], n: usize) -> Check
+    requires { ⌜ (headerLength n ≤ length (now bytes)) × (n ≤ 1024) ⌝ }
+    ensures { λ r. ⌜ asCheck r ≡ paper.entriesVerdict (length (now (bytes .entry))) 0 (directoryOf n (now (bytes .entry))) ⌝ }
+{
+    let mut kinds = [0u16; 1024];
+    check_entries_in(bytes, n, &mut kinds[..n])
+}
+
+// With room for the kinds.
+fn check_entries_in(bytes: &[u8], n: usize, kinds: &mut [u16]) -> Check
+    requires { ⌜ (headerLength n ≤ length (now bytes)) × (n ≤ 1024) × (length (now kinds) ≡ n) ⌝ }
+    ensures { λ r. ⌜ asCheck r ≡ paper.entriesVerdict (length (now (bytes .entry))) 0 (directoryOf n (now (bytes .entry))) ⌝ }
+{
+    vote_kinds(bytes, n, kinds);
+    check_entries(bytes, n, kinds)
+}
+
+// The kinds of n entries, each voted once, so that they can be compared with each other quickly.
+fn vote_kinds(bytes: &[u8], n: usize, kinds: &mut [u16])
+    requires { ⌜ (headerLength n ≤ length (now bytes)) × (length (now kinds) ≡ n) ⌝ }
+    ensures { λ r. ⌜ now (kinds .exit) ≡ kindsOf (directoryOf n (now (bytes .entry))) ⌝ }
+{
+    let mut i: usize = 0;
+    while i < n {
+        kinds[i] = voted_u16(bytes, 48, 16 * n, 16 * i);
+        i += 1;
+    }
+}
+
+// For each entry in turn: its end past the image, then a later entry with its kind.
+fn check_entries(bytes: &[u8], n: usize, kinds: &[u16]) -> Check
+    requires { ⌜ (headerLength n ≤ length (now bytes)) × (n ≤ 1024) × (length (now kinds) ≡ n) × (now kinds ≡ kindsOf (directoryOf n (now bytes))) ⌝ }
+    ensures { λ r. ⌜ asCheck r ≡ paper.entriesVerdict (length (now (bytes .entry))) 0 (directoryOf n (now (bytes .entry))) ⌝ }
+{
+    let mut i: usize = 0;
+    while i < n {
+        if bytes.len() < voted_end(bytes, n, i) {
+            return Check::Refuse(Refusal::RegionOutOfBounds { index: i as u16 });
+        }
+        let kind = kinds[i];
+        let next = i + 1;
+        if is_among(kind, &kinds[next..]) {
+            return Check::Refuse(Refusal::DuplicateRegion { kind });
+        }
+        i += 1;
+    }
+    Check::Fine
+}
+
+// The byte after entry i's last.
+fn voted_end(bytes: &[u8], n: usize, i: usize) -> usize
+    requires { ⌜ (headerLength n ≤ length (now bytes)) × (i < n) ⌝ }
+    ensures { λ r. ⌜ r ≡ end (entryIn n (now (bytes .entry)) i) ⌝ }
+{
+    let offset = voted_u32(bytes, 48, 16 * n, 16 * i + 4);
+    let words = voted_u32(bytes, 48, 16 * n, 16 * i + 8);
+    8 * (offset as usize + words as usize)
+}
+
+// It does not stop at the first hit: a loop that always runs to its end is compiled to wide compares.
+fn is_among(kind: u16, kinds: &[u16]) -> bool
+    ensures { λ r. ⌜ r ≡ elem kind (now (kinds .entry)) ⌝ }
+{
+    let mut found = false;
+    let mut j: usize = 0;
+    while j < kinds.len() {
+        if kinds[j] == kind {
+            found = true;
+        }
+        j += 1;
+    }
+    found
+}
