@@ -20,3 +20,15 @@ asWord Nothing = none
 
 abbrev pub asReport : EccReport → Report
 asReport r = record { words = r .words; corrected = r .corrected; uncorrectable = r .uncorrectable }
+
+-- ---- what a decoded word adds to a report
+
+abbrev pub oneIfCorrected : Outcome → ℕ
+oneIfCorrected (cleanWord w) = 0
+oneIfCorrected (correctedWord w) = 1
+oneIfCorrected uncorrectableWord = 0
+
+abbrev pub oneIfLost : Outcome → ℕ
+oneIfLost (cleanWord w) = 0
+oneIfLost (correctedWord w) = 0
+oneIfLost uncorrectableWord = 1

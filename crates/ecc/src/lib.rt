@@ -1,12 +1,12 @@
 // (72,64) Hsiao SECDED, after ecc.rs: one check byte for each 64-bit word, in a plane beside the data.
 ghost use mathlib.Core.Path.{_≡_};
 ghost use mathlib.Core.Bool.{_&&_};
-ghost use Prim.Native.Nat.{ℕ, _+_, _<_, _≤_};
+ghost use Prim.Native.Nat.{_*_, _≤_};
 ghost use lib.Dec.{eqb, ltb};
 ghost use lib.ListN.{length};
 ghost use Rattle.paper.specs.Parity.{columns, find, checkOf, outcome, planeKind};
 ghost use Rattle.paper.specs.Scan.{sliceWords, sliceWord, sliceScan};
-ghost use Rattle.ecc.specs.Answers.{asOutcome, asWord, asReport};
+ghost use Rattle.ecc.specs.Answers.{asOutcome, asWord, asReport, oneIfCorrected, oneIfLost};
 
 // Number of check bits per word.
 pub const CHECK_BITS: usize = 8;
@@ -104,7 +104,9 @@ pub fn check_byte(data: u64) -> u8
     let mut s: u8 = 0;
     let mut i: usize = 0;
     while i < 64 {
-        if (data >> i) & 1 == 1 {
+        // Bit i out of its byte: on bytes the compiler takes sixteen columns at once.
+        let byte = ((data >> (i / 8 * 8)) % 256) as u8;
+        if (byte >> (i % 8)) % 2 == 1 {
             s ^= table[i];
         }
         i += 1;
@@ -141,15 +143,16 @@ pub fn decode_word(data: u64, check: u8) -> WordStatus
     if syndrome == 0 {
         return WordStatus::Clean(data);
     }
-    if u8::count_ones(syndrome) % 2 == 1 {
-        let i = column_of(syndrome);
-        if i < 64 {
-            return WordStatus::Corrected(data ^ (1u64 << i));
-        }
-        if i < 72 {
-            // A check bit took the hit; the data was never wrong.
-            return WordStatus::Corrected(data);
-        }
+    if u8::count_ones(syndrome) % 2 == 0 {
+        return WordStatus::Uncorrectable;
+    }
+    let i = column_of(syndrome);
+    if i < 64 {
+        return WordStatus::Corrected(data ^ (1u64 << i));
+    }
+    if i < 72 {
+        // A check bit took the hit; the data was never wrong.
+        return WordStatus::Corrected(data);
     }
     WordStatus::Uncorrectable
 }
@@ -181,4 +184,73 @@ impl EccReport {
 pub enum PlaneWord {
     Word(WordStatus),
     Nothing,
+}
+
+// How many words have their byte: the whole words of the data, or the bytes of the plane if those are fewer.
+fn plane_words(parity: &[u8], data: &[u8]) -> usize
+    ensures { λ r. ⌜ (r ≡ sliceWords (now («data» .entry)) (now (parity .entry)))
+        × (r * 8 ≤ length (now («data» .entry))) × (r ≤ length (now (parity .entry))) ⌝ }
+{
+    let words = data.len() / 8;
+    if words < parity.len() {
+        words
+    } else {
+        parity.len()
+    }
+}
+
+// Word `index` of the data with byte `index` of its plane.
+pub fn plane_word(parity: &[u8], data: &[u8], index: usize) -> PlaneWord
+    ensures { λ r. ⌜ asWord r ≡ sliceWord (now («data» .entry)) (now (parity .entry)) index ⌝ }
+{
+    if index >= plane_words(parity, data) {
+        return PlaneWord::Nothing;
+    }
+    PlaneWord::Word(decode_word(scalar::u64_or_zero(data, 8 * index), parity[index]))
+}
+
+fn one_if_corrected(status: WordStatus) -> usize
+    ensures { λ r. ⌜ (r ≡ oneIfCorrected (asOutcome status)) × (r ≤ 1) ⌝ }
+{
+    match status {
+        WordStatus::Clean(_) => 0,
+        WordStatus::Corrected(_) => 1,
+        WordStatus::Uncorrectable => 0,
+    }
+}
+
+fn one_if_lost(status: WordStatus) -> usize
+    ensures { λ r. ⌜ (r ≡ oneIfLost (asOutcome status)) × (r ≤ 1) ⌝ }
+{
+    match status {
+        WordStatus::Clean(_) => 0,
+        WordStatus::Corrected(_) => 0,
+        WordStatus::Uncorrectable => 1,
+    }
+}
+
+// Every word of the data that has its byte in the plane.
+pub fn plane_scan(parity: &[u8], data: &[u8]) -> EccReport
+    ensures { λ r. ⌜ asReport r ≡ sliceScan (now («data» .entry)) (now (parity .entry)) ⌝ }
+{
+    let words = plane_words(parity, data);
+    let mut corrected: usize = 0;
+    let mut uncorrectable: usize = 0;
+    let mut w: usize = 0;
+    while w < words {
+        let word = scalar::u64_or_zero(data, 8 * w);
+        let check = parity[w];
+        // A clean word, which nearly every one is, is told by its check byte and counts for nothing.
+        if check_byte(word) != check {
+            let status = decode_word(word, check);
+            corrected += one_if_corrected(status);
+            uncorrectable += one_if_lost(status);
+        }
+        w += 1;
+    }
+    EccReport {
+        words,
+        corrected,
+        uncorrectable,
+    }
 }

@@ -4,8 +4,11 @@ pub mod CrcDivision
 pub mod CrcUnique
 pub mod CrcFigures
 pub mod ParityLaw
+pub mod ParityFigures
 pub mod BytesLaw
 pub mod LayoutLaw
 pub mod WalkLaw
 pub mod CopiesLaw
 pub mod ParseLaw
+pub mod ScanLaw
+pub mod PlaneLaw

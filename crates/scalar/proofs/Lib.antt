@@ -1,2 +1,3 @@
 pub mod Asked
 pub mod OneAnswer
+pub mod OrZero

@@ -25,3 +25,8 @@ asPaper32 u32-at.Nothing = none
 abbrev pub asPaper64 : U64At → Option ℕ
 asPaper64 (u64-at.Value n) = some n
 asPaper64 u64-at.Nothing = none
+
+-- the number, 0 for nothing
+abbrev pub orZero : Option ℕ → ℕ
+orZero (some n) = n
+orZero none = 0

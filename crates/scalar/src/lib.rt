@@ -7,7 +7,7 @@ ghost use lib.ListN.{length};
 ghost use Rattle.bits.specs.Vote.{Majority};
 ghost use Rattle.paper.specs.Bytes.{read, readIn, le};
 ghost use Rattle.paper.specs.Layout as paper;
-ghost use Rattle.scalar.specs.Answers.{asPaper8, asPaper16, asPaper32, asPaper64};
+ghost use Rattle.scalar.specs.Answers.{asPaper8, asPaper16, asPaper32, asPaper64, orZero};
 
 pub enum U8At {
     Value(u8),
@@ -73,6 +73,16 @@ pub fn u64_at(b: &[u8], at: usize) -> U64At
         return U64At::Nothing;
     }
     U64At::Value(u64_from(b, at))
+}
+
+// The word at `at`, and 0 where it would reach past the end: for a caller that knows that it doesn't.
+pub fn u64_or_zero(b: &[u8], at: usize) -> u64
+    ensures { λ r. ⌜ r ≡ orZero (readIn 8 (now (b .entry)) at) ⌝ }
+{
+    if !has(b, at, 8) {
+        return 0;
+    }
+    u64_from(b, at)
 }
 
 // The number of the 2 bytes from at on, which are there.

@@ -1,2 +1,3 @@
 pub mod KindsLaw
 pub mod AnswersLaw
+pub mod SeenLaw

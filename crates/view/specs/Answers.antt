@@ -1,6 +1,11 @@
 -- The paper's reading of each answer. (FORMAT 5, 6)
 use mathlib.Core.Bool.{Bool, true, false}
+use mathlib.Core.Option.{Option, none, some}
 use Prim.Native.Nat.{ℕ}
+use Rattle.paper.specs.Layout.{Entry}
+use Rattle.layout.specs.Regions.{regionOf}
+use Rattle.view.specs.declared.regions.RegionAt.{RegionAt}
+use Rattle.view.specs.declared.regions.RegionAt.the-variants as found
 use Rattle.paper.specs.Refusals.{Verdict, fine, refuse}
 use Rattle.paper.specs.Parse.{Parsed, accepted, refused}
 use Rattle.error.specs.Refused.{numberOf, detailOf, asVerdict}
@@ -38,3 +43,8 @@ asParsed (parse.Parsed h) =
       directoryDisagreed = h .«directory_disagreed»;
     })
 asParsed (parse.Refused r) = refused (numberOf r) (detailOf r)
+
+-- an entry, as the region that is handed out
+abbrev pub foundAs : Option Entry → RegionAt
+foundAs none = found.Nothing
+foundAs (some e) = found.Found (regionOf e)

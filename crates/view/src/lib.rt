@@ -1,3 +1,12 @@
-// The reader, after view.rs: parse, lookups, tables, pools and scans over a caller's bytes.
+// The reader, after view.rs: parse, lookups and scans over a caller's bytes.
 mod header;
+mod regions;
 mod vote;
+
+pub use header::Header;
+pub use header::ParseResult;
+pub use header::parse;
+pub use regions::RegionAt;
+pub use regions::ecc_for;
+pub use regions::find_region;
+pub use regions::region_at;

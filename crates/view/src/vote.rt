@@ -4,8 +4,11 @@ ghost use Prim.Native.Nat.{ℕ, _+_, _*_, _<_, _≤_};
 ghost use lib.ListN.{length, take, drop};
 ghost use Rattle.paper.specs.Bytes.{at, read, thrice};
 ghost use Rattle.paper.specs.Crc as paper;
-ghost use Rattle.paper.specs.Layout.{voted, prologue, differs};
+ghost use Rattle.paper.specs.Layout.{voted, prologue, differs, headerLength};
+ghost use Rattle.paper.proofs.LayoutLaw.{entryIn};
+ghost use Rattle.layout.specs.Regions.{regionOf};
 ghost use Rattle.paper.proofs.CopiesLaw.{offAt};
+use layout::Region;
 use scalar::maj3;
 
 // Byte j of the vote over three copies of k bytes from base on.
@@ -81,4 +84,20 @@ pub(crate) fn voted_checksum(bytes: &[u8]) -> u32
         j += 1;
     }
     crc::crc32(&start)
+}
+
+// Directory entry i of n.
+pub(crate) fn voted_region(bytes: &[u8], n: usize, i: usize) -> Region
+    requires { ⌜ (headerLength n ≤ length (now bytes)) × (i < n) ⌝ }
+    ensures { λ r. ⌜ r ≡ regionOf (entryIn n (now (bytes .entry)) i) ⌝ }
+{
+    let k = 16 * n;
+    let p = 16 * i;
+    Region {
+        kind: voted_u16(bytes, 48, k, p),
+        flags: voted_u16(bytes, 48, k, p + 2),
+        word_offset: voted_u32(bytes, 48, k, p + 4),
+        word_length: voted_u32(bytes, 48, k, p + 8),
+        covers: voted_u16(bytes, 48, k, p + 12),
+    }
 }

@@ -1,20 +1,21 @@
 -- `ecc::check_byte` meets its contract. The invariant: with the columns of the bits to come, `s` is the check byte.
 use mathlib.Core.Path.{_≡_, sym, ap, ap₂, _∙_}
 use mathlib.Core.Logic.{⊎-elim}
-use mathlib.Core.Bool.{Bool}
+use mathlib.Core.Bool.{Bool, true, false}
 use mathlib.Core.List.{List}
-use Prim.Native.Nat.{ℕ, _+_, _-_, _/_, _^_, _≤_, _<_}
-use native.Mathlib.Nat.{div-one}
+use Prim.Native.Nat.{ℕ, _+_, _-_, _*_, _/_, _%_, _^_, _≤_, _<_}
+use native.Mathlib.Nat.{div-one, mod-lt, div-add-mod'}
 use native.Mathlib.Omega.{arith}
 use native.Mathlib.Numerals.{add-one}
 use borrow.Author.Needs.{needs}
+use lib.Dec.{lit<}
 use lib.Bits.{bitXor, xor-zero-r}
-use lib.Pow.{shr-shr}
+use lib.Pow.{shr-shr, field, mod-mod-pow}
 use lib.ListN.{length, getD, take, drop}
 use lib.Seq.{drop-cons, getD-take}
-use Rattle.bits.specs.Bit.{bit}
+use Rattle.bits.specs.Bit.{bit, isOne}
 use Rattle.bits.specs.Linear.{syn, pick}
-use Rattle.bits.proofs.BitLaw.{xor-assoc, low-on, low-off}
+use Rattle.bits.proofs.BitLaw.{xor-assoc, bit-zero}
 use Rattle.paper.specs.Parity.{columns, checkOf}
 use Rattle.ecc.proofs.check_byte.Statement.{statement}
 use Rattle.ecc.proofs.check_byte.Tie as tie
@@ -27,6 +28,29 @@ step cs w i h =
     ap (λ (l : List ℕ). syn l (w / 2 ^ i)) (drop-cons cs i 0 h)
     ∙ ap₂ (λ (x : ℕ) (l : List ℕ). bitXor (pick (bit (w / 2 ^ i) 0) (getD cs i 0)) (syn l x)) (shr-shr w i 1)
     (ap (λ (k : ℕ). drop k cs) (sym (add-one i)))
+
+-- bit i, taken out of its byte
+in-byte : (w i : ℕ) → w / 2 ^ (i / 8 * 8) % 256 / 2 ^ (i % 8) % 2 ≡ w / 2 ^ i % 2
+in-byte w i =
+    let r : i % 8 < 8 = mod-lt i (lit< tt) in
+    let s : 8 - i % 8 + i % 8 ≡ 8 = omega arith in
+    let o : 7 - i % 8 + 1 ≡ 8 - i % 8 = omega arith in
+    let e : i / 8 * 8 + i % 8 ≡ i = div-add-mod' i 8 in
+    ap (λ (k : ℕ). v % 2 ^ k / 2 ^ (i % 8) % 2) (sym s)
+    ∙ ap (λ (x : ℕ). x % 2) (field v (8 - i % 8) (i % 8))
+    ∙ ap (λ (k : ℕ). v / 2 ^ (i % 8) % 2 ^ k % 2) (sym o)
+    ∙ mod-mod-pow (v / 2 ^ (i % 8)) (7 - i % 8) 1
+    ∙ ap (λ (x : ℕ). x % 2) (shr-shr w (i / 8 * 8) (i % 8) ∙ ap (λ (k : ℕ). w / 2 ^ k) e)
+  where
+    v : ℕ
+    v = w / 2 ^ (i / 8 * 8)
+
+module _ (w i : ℕ) where
+  set : w / 2 ^ (i / 8 * 8) % 256 / 2 ^ (i % 8) % 2 ≡ 1 → bit (w / 2 ^ i) 0 ≡ true
+  set e = bit-zero (w / 2 ^ i) ∙ ap isOne (sym (in-byte w i) ∙ e)
+
+  unset : (w / 2 ^ (i / 8 * 8) % 256 / 2 ^ (i % 8) % 2 ≡ 1 → ⊥) → bit (w / 2 ^ i) 0 ≡ false
+  unset f = let z : w / 2 ^ i % 2 ≡ 0 = omega (arith, in-byte w i) in bit-zero (w / 2 ^ i) ∙ ap isOne z
 
 -- a turn: the column at i goes into s where bit i is set
 turn : (w s s′ i : ℕ) → i < 64 → s′ ≡ bitXor s (pick (bit (w / 2 ^ i) 0) (getD columns i 0))
@@ -60,8 +84,8 @@ loop-again c =
       search needs,
       turn d (a .loop .s) (c .if1 .s) (a .loop .i) (search needs)
           (⊎-elim
-          (λ w. w .1 ∙ ap (λ (t : Bool). bitXor (a .loop .s) (pick t (getD columns (a .loop .i) 0))) (sym (low-on (d / 2 ^ a .loop .i) (w .0 .taken))))
-          (λ w. w .1 ∙ sym (xor-zero-r (a .loop .s)) ∙ ap (λ (t : Bool). bitXor (a .loop .s) (pick t (getD columns (a .loop .i) 0))) (sym (low-off (d / 2 ^ a .loop .i) (w .0 .left))))
+          (λ w. w .1 ∙ ap (λ (t : Bool). bitXor (a .loop .s) (pick t (getD columns (a .loop .i) 0))) (sym (set d (a .loop .i) (w .0 .taken))))
+          (λ w. w .1 ∙ sym (xor-zero-r (a .loop .s)) ∙ ap (λ (t : Bool). bitXor (a .loop .s) (pick t (getD columns (a .loop .i) 0))) (sym (unset d (a .loop .i) (w .0 .left))))
           (c .if1 .came))
           (a .loop .inv .1),
     )
@@ -78,4 +102,17 @@ returns c =
 pub check-byte-spec : {M : Type 1} → statement M
 check-byte-spec =
     tie.close
-    (tie.spec Inv-loop μ-loop loop-holds (λ c. search needs) (λ c. search needs) (λ c. search needs) (λ c. search needs) loop-again returns)
+    (tie.spec
+    Inv-loop
+    μ-loop
+    loop-holds
+    (λ c. search needs)
+    (λ c. search needs)
+    (λ c. search needs)
+    (λ c. search needs)
+    (λ c. search needs)
+    (λ c. search needs)
+    (λ c. search needs)
+    (λ c. search needs)
+    loop-again
+    returns)

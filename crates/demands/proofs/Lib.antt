@@ -1,0 +1,9 @@
+pub mod Demands
+pub mod Distance
+pub mod Answer
+pub mod DamageLaw
+pub mod Restores
+pub mod Settles
+pub mod Touches
+pub mod ReadsBack
+pub mod Sample

@@ -1,0 +1,141 @@
+-- The writer's image read back: it parses, each row's region is found and hands back its payload, and the scan is clean. Assumes nothing.
+use mathlib.Core.Path.{_≡_, refl, sym, ap, _∙_, subst}
+use mathlib.Core.Bool.{true, false}
+use mathlib.Core.List.{List, [], _∷_, _++_}
+use mathlib.Core.Option.{some}
+use Prim.Native.Nat.{ℕ, _+_, _-_, _*_, _≤_, _<_}
+use native.Mathlib.Nat.{add-zero, zero-add, add-assoc}
+use native.Mathlib.Omega.{arith}
+use borrow.Author.Tests.{eq-eqb, ne-eqb, eqb-false, le-ltb}
+use lib.Dec.{eqb, ltb}
+use lib.ListN.{length}
+use lib.Seq.{ext-getD}
+use Rattle.paper.specs.Bytes.{at, wordAt, given, part, Bytes}
+use Rattle.paper.specs.Layout.{headerLength, directoryOf, directory, Entry}
+use Rattle.paper.specs.Parse.{parse, accepted}
+use Rattle.paper.specs.Views.{seen, firstThat, ofKind, findRegion, bytesSpan, partOf}
+use Rattle.paper.specs.Parity.{Class, clean, decode}
+use Rattle.paper.specs.Scan.{Among, examined, isCorrected, isLost, total, classesAt, report, reportOf, scan}
+use Rattle.paper.specs.Writer.{Row, flagged, rowEntries, planeEntries, rowWords, planesWords, planesBytes, planes, regions, firstWord, planDirectory, imageOf, imageLength, kindAmong, image, write}
+use Rattle.paper.proofs.BytesLaw.{at-left}
+use Rattle.paper.proofs.ParityLaw.{decode-clean}
+use Rattle.paper.proofs.ScanLaw.{length-part, at-part, length-classes}
+use Rattle.laws.proofs.VerdictLaw.{or-left, or-right}
+use Rattle.laws.proofs.EntriesLaw.{Accepted, accepted-image}
+use Rattle.laws.proofs.PlanLaw.{RowsOK, PlanOK, wrote}
+use Rattle.laws.proofs.PlanPairs.{pairsPlan, plan-among}
+use Rattle.laws.proofs.MendLaw.{InOrder}
+use Rattle.laws.proofs.ImageLaw.{written-length, count-is, directory-back, examined-back, visits-back, in-order, in-body, parse-fine}
+use Rattle.demands.specs.Damage.{entryOfRow, ReadsBack}
+use Rattle.demands.proofs.Answer.{total-zero}
+use Rattle.demands.proofs.Settles.{parses}
+
+-- ---- a row's region is found by its kind
+
+rows-rest : (s : Row) (rs : List Row) → RowsOK (s ∷ rs) → (kindAmong (s .kind) rs ≡ false) × RowsOK rs
+rows-rest s rs (RowsOK.cons k f n o) = (n, o)
+
+other-row : (k : ℕ) (before : List Row) (r : Row) (behind : List Row) → kindAmong k (before ++ (r ∷ behind)) ≡ false → r .kind ≡ k → ⊥
+unfolding kindAmong
+other-row k [] r behind h e = eqb-false (r .kind) k (or-left (eqb (r .kind) k) (kindAmong k behind) h) e
+other-row k (s ∷ before) r behind h e = other-row k before r behind (or-right (eqb (s .kind) k) (kindAmong k (before ++ (r ∷ behind))) h) e
+
+find-row : (a : ℕ) (before : List Row) (r : Row) (behind : List Row) (fs : List Entry) → RowsOK (before ++ (r ∷ behind))
+    → firstThat (ofKind (r .kind)) (rowEntries a (before ++ (r ∷ behind)) ++ fs)
+    ≡ some (record { kind = r .kind; flags = r .flags; offset = a + rowWords before; words = r .words; covers = 0; spare = 0 })
+unfolding firstThat rowEntries rowWords
+find-row a [] r behind fs o = rw (eq-eqb (r .kind) (r .kind) refl, add-zero a)
+find-row a (s ∷ before) r behind fs o =
+    let p = rows-rest s (before ++ (r ∷ behind)) o in
+    rw (ne-eqb (s .kind) (r .kind) (λ e. other-row (s .kind) before r behind (p .0) (sym e)), sym (add-assoc a (s .words) (rowWords before)))
+    (find-row (a + s .words) before r behind fs (p .1))
+
+-- ---- its bytes
+
+words-append : (xs ys : List Row) → rowWords (xs ++ ys) ≡ rowWords xs + rowWords ys
+unfolding rowWords
+words-append [] ys = sym (zero-add (rowWords ys))
+words-append (x ∷ xs) ys = ap (λ (n : ℕ). x .words + n) (words-append xs ys) ∙ sym (add-assoc (x .words) (rowWords xs) (rowWords ys))
+
+part-ext : (x y : List ℕ) (a b c d : ℕ) → b ≤ length x → d ≤ length y → b - a ≡ d - c → ((j : ℕ) → j < b - a → at x (a + j) ≡ at y (c + j)) → part x a b ≡ part y c d
+part-ext x y a b c d l m e f =
+    ext-getD 0 (part x a b) (part y c d) (length-part x a b l ∙ e ∙ sym (length-part y c d m))
+    (λ j h. let g : j < b - a = omega (arith, length-part x a b l) in
+    at-part x a b j g ∙ f j g ∙ sym (at-part y c d j (omega arith)))
+
+image-room : (rs : List Row) → headerLength (regions rs) + 8 * rowWords rs ≤ imageLength rs
+unfolding imageLength
+image-room rs = omega arith
+
+-- ---- all of it
+
+module _ (rs : List Row) (payload : List ℕ) (o : PlanOK rs payload) (b : Bytes payload) where
+  w : List ℕ
+  w = imageOf rs payload
+
+  order : InOrder w
+  unfolding w
+  order = in-order rs payload o b
+
+  fine : Accepted w
+  unfolding w
+  fine = accepted-image (imageOf rs payload) (parse-fine rs payload o)
+
+  parsed : parse w ≡ accepted (record { regions = regions rs; prologueDisagreed = false; directoryDisagreed = false })
+  unfolding w
+  parsed =
+      parses w (fine .long) (order .copies) (parse-fine rs payload o)
+      ∙ ap (λ (n : ℕ). accepted (record { regions = n; prologueDisagreed = false; directoryDisagreed = false })) (count-is rs payload o)
+
+  entries-seen : seen (regions rs) w ≡ planDirectory rs
+  unfolding w seen directory
+  entries-seen =
+      rw (le-ltb (length w) (headerLength (regions rs)) (omega (arith, image-room rs, written-length rs payload o)))
+      (ap (λ (n : ℕ). directoryOf n w) (sym (count-is rs payload o)) ∙ directory-back rs payload o)
+
+  module _ (before : List Row) (r : Row) (behind : List Row) (e : rs ≡ before ++ (r ∷ behind)) where
+    finds : findRegion (regions rs) w (r .kind) ≡ some (entryOfRow rs before r)
+    unfolding findRegion planDirectory
+    finds =
+        ap (firstThat (ofKind (r .kind))) entries-seen
+        ∙ ap (λ (l : List Row). firstThat (ofKind (r .kind)) (rowEntries (firstWord rs) l ++ planeEntries (firstWord rs + rowWords rs) rs)) e
+        ∙ find-row (firstWord rs) before r behind (planeEntries (firstWord rs + rowWords rs) rs) (subst RowsOK e (o .rows))
+
+    hands : partOf w (bytesSpan (length w) (entryOfRow rs before r)) ≡ part payload (8 * rowWords before) (8 * (rowWords before + r .words))
+    unfolding w bytesSpan rowWords
+    hands =
+        let n : rowWords rs ≡ rowWords before + (r .words + rowWords behind) = ap rowWords e ∙ words-append before (r ∷ behind) in
+        let full : length payload ≡ 8 * rowWords rs = o .full in
+        let len : length w ≡ imageLength rs = written-length rs payload o in
+        let room : headerLength (regions rs) + 8 * rowWords rs ≤ imageLength rs = image-room rs in
+        let s = 8 * (firstWord rs + rowWords before) in
+        let t = 8 * (firstWord rs + rowWords before + r .words) in
+        rw (le-ltb (length w) t (omega arith))
+        (part-ext w payload s t (8 * rowWords before) (8 * (rowWords before + r .words)) (omega arith) (omega arith) (omega arith)
+        (λ j h. let m : s + j ≡ headerLength (regions rs) + (8 * rowWords before + j) = omega arith in
+        ap (at w) m ∙ in-body rs payload o (8 * rowWords before + j)
+        ∙ at-left payload (planesBytes rs payload) (length payload) (8 * rowWords before + j) refl (omega arith)))
+
+    protects : flagged r ≡ true → (k : ℕ) → k < r .words
+        → Among (firstWord rs + rowWords before + k) (8 * (firstWord rs + rowWords rs + planesWords before) + k) (examined w)
+    unfolding w
+    protects t k h =
+        subst (Among (firstWord rs + rowWords before + k) (8 * (firstWord rs + rowWords rs + planesWords before) + k))
+        (ap (λ (l : List Row). pairsPlan l (firstWord rs) (firstWord rs + rowWords rs)) (sym e) ∙ sym (examined-back rs payload o))
+        (plan-among before r behind t (firstWord rs) (firstWord rs + rowWords rs) k h)
+
+  all-clean : (f : Class → ℕ) → f clean ≡ 0 → total f (classesAt w (examined w)) ≡ 0
+  all-clean f z = total-zero f w (examined w) (λ q c m. ap f (ap (decode (wordAt w q)) (order .checks q c m) ∙ decode-clean (wordAt w q)) ∙ z)
+
+  scans : scan w ≡ given (ltb 0 (planes rs)) (record { words = length (examined w); corrected = 0; uncorrectable = 0 })
+  unfolding scan reportOf report examined w
+  scans = rw (visits-back rs payload o, length-classes w (examined w), all-clean isCorrected refl, all-clean isLost refl)
+
+  pub reads-back : ReadsBack rs payload (imageOf rs payload)
+  unfolding w
+  reads-back = record { parses = parsed; finds = finds; hands = hands; protects = protects; scans = scans }
+
+pub read-back : (rs : List Row) (payload : List ℕ) (room : ℕ) (w : List ℕ) → write rs payload room ≡ image w → Bytes payload → ReadsBack rs payload w
+read-back rs payload room w h b =
+    let r = wrote rs payload room w h in
+    subst (ReadsBack rs payload) (r .is) (reads-back rs payload (r .plan) b)

@@ -1,0 +1,158 @@
+-- What mend leaves: it parses afresh with no scrub wanted, mending it again changes and corrects nothing, and scrub agrees with it. Assumes nothing.
+use mathlib.Core.Path.{_≡_, refl, sym, ap, ap₂, _∙_}
+use mathlib.Core.Bool.{Bool, true, false}
+use mathlib.Core.List.{List, []}
+use mathlib.Core.Option.{Option, none, some}
+use Prim.Native.Nat.{ℕ, _+_, _*_, _≤_, _<_}
+use native.Mathlib.Omega.{arith}
+use lib.ListN.{length, drop, length-drop}
+use lib.Seq.{getD-drop}
+use Rattle.paper.specs.Bytes.{at, wordAt, thrice, given, Bytes}
+use Rattle.paper.specs.Refusals.{fine}
+use Rattle.paper.specs.Layout.{prologue, count, headerLength, directoryBytes, header, directory, prologueOff, directoryOff, scrubWanted}
+use Rattle.paper.specs.Parse.{parseVerdict, accepted, headerOf, parse}
+use Rattle.paper.specs.Parity.{decode}
+use Rattle.paper.specs.Scan.{Among, examined, visitsAny, isCorrected, isLost, total, classesAt, Report, report, reportOf, scan}
+use Rattle.paper.specs.Scrub.{scrub}
+use Rattle.paper.specs.Mend.{apartVerdict, mendVerdict, Mended, mendBytes, wholeOf, mended, mend}
+use Rattle.paper.proofs.BytesLaw.{at-left, at-right, length-thrice}
+use Rattle.paper.proofs.LayoutLaw.{length-prologue, length-directoryBytes, differs-not}
+use Rattle.paper.proofs.ScanLaw.{length-classes}
+use Rattle.laws.specs.Steps.{scrubAll}
+use Rattle.laws.proofs.VerdictLaw.{passed-both, or-none}
+use Rattle.laws.proofs.HeaderLaw.{SameHeader, same-header, same-directory, same-examined, same-verdict, copied}
+use Rattle.laws.proofs.EntriesLaw.{accepted-image}
+use Rattle.laws.proofs.PairLaw.{Where, inWord, isCheck, neither, classify}
+use Rattle.laws.proofs.CodeLaw.{none-corrected, lost-again}
+use Rattle.laws.proofs.MendLaw.{one-result, same-in-word, settled, meets-rule}
+use Rattle.laws.proofs.StoredLaw.{changed-none}
+use Rattle.laws.proofs.ScrubLaw.{Scrubs, scrubs, scrub-is}
+use Rattle.laws.proofs.Fold.{check-out}
+use Rattle.laws.proofs.Apart.{apart, past}
+use Rattle.demands.specs.Damage.{uncorrected}
+use Rattle.demands.proofs.Answer.{Mends, mends, total-ext, total-zero}
+
+-- ---- no scrub wanted where the copies are the votes
+
+module _ (y : List ℕ) (long : headerLength (count y) ≤ length y) (f : (p : ℕ) → p < headerLength (count y) → at y p ≡ at (header y) p) where
+  lp : length (thrice (prologue y)) ≡ 48
+  lp = length-thrice (prologue y) 16 (length-prologue y)
+
+  ld : length (thrice (directoryBytes y)) ≡ 48 * count y
+  ld = let e = length-thrice (directoryBytes y) (16 * count y) (length-directoryBytes y) in omega arith
+
+  prologue-agrees : prologueOff y ≡ false
+  unfolding prologueOff header
+  prologue-agrees =
+      differs-not (thrice (prologue y)) y (omega (arith, lp))
+      (λ p h. let l : p < 48 = omega (arith, lp) in
+      sym (f p (omega arith) ∙ at-left (thrice (prologue y)) (thrice (directoryBytes y)) 48 p lp l))
+
+  directory-agrees : directoryOff y ≡ false
+  unfolding directoryOff header
+  directory-agrees =
+      differs-not (thrice (directoryBytes y)) (drop 48 y) (omega (arith, ld, length-drop 48 y))
+      (λ p h. let l : p < 48 * count y = omega (arith, ld) in
+      sym (getD-drop 48 y p 0 ∙ f (48 + p) (omega arith) ∙ at-right (thrice (prologue y)) (thrice (directoryBytes y)) 48 p lp))
+
+  pub none-wanted : scrubWanted y ≡ false
+  unfolding scrubWanted
+  none-wanted = or-none (prologueOff y) (directoryOff y) prologue-agrees directory-agrees
+
+  pub parses : parseVerdict y ≡ fine → parse y ≡ accepted (record { regions = count y; prologueDisagreed = false; directoryDisagreed = false })
+  unfolding parse headerOf
+  parses v = rw (v, prologue-agrees, directory-agrees)
+
+-- ---- the scan of what mend leaves
+
+whole-again : (r : Option Report) → wholeOf (uncorrected r) ≡ wholeOf r
+whole-again none = refl
+whole-again (some r) = refl
+
+module _ (x y : List ℕ) (r : Option Report) (k : ℕ) (t : Bool) (b : Bytes x) (h : mend x ≡ mended y r k t) where
+  m : Mends x y r k t
+  m = mends x y r k t b h
+
+  same : SameHeader y x
+  same = copied x y (m .rule .copies)
+
+  stays : Mended y y
+  stays = settled x y (m .rule)
+
+  fine-again : mendVerdict y ≡ fine
+  fine-again = same-verdict y x (m .rule .size) same ∙ m .verdict
+
+  none-left : total isCorrected (classesAt y (examined y)) ≡ 0
+  none-left = total-zero isCorrected y (examined y) (λ q c i. none-corrected (wordAt y q) (at y c) (stays .words q c i) (stays .checks q c i))
+
+  lost-left : total isLost (classesAt y (examined x)) ≡ total isLost (classesAt x (examined x))
+  lost-left =
+      total-ext isLost isLost y x (examined x) (λ q c i. ap₂ (λ (w d : ℕ). isLost (decode w d)) (m .rule .words q c i) (m .rule .checks q c i) ∙ lost-again (wordAt x q) (at x c))
+
+  words-left : length (classesAt y (examined x)) ≡ length (classesAt x (examined x))
+  words-left = length-classes y (examined x) ∙ sym (length-classes x (examined x))
+
+  scan-again : scan y ≡ uncorrected (scan x)
+  unfolding scan examined reportOf report
+  scan-again =
+      rw (m .rule .size, same-directory y x same, rw (same-examined y x (m .rule .size) same) at none-left, lost-left, words-left)
+      (go (visitsAny (length x) (directory x) (directory x)))
+    where
+      go : (v : Bool)
+          → given v (record { words = length (classesAt x (examined x)); corrected = 0; uncorrectable = total isLost (classesAt x (examined x)) })
+          ≡ uncorrected (given v (report (classesAt x (examined x))))
+      go true = refl
+      go false = refl
+
+  -- ---- mending again
+
+  pub settles-down : mend y ≡ mended y (uncorrected r) 0 t
+  unfolding mend
+  settles-down =
+      let e : mendBytes y ≡ y = one-result y (mendBytes y) y (meets-rule y fine-again (m .rule .bytes)) stays in
+      let s : scan y ≡ uncorrected r = scan-again ∙ ap uncorrected (m .report) in
+      rw (fine-again, e, s, changed-none y, whole-again r, m .whole)
+
+  -- ---- parsed afresh
+
+  pub fresh : (parse y ≡ accepted (record { regions = count x; prologueDisagreed = false; directoryDisagreed = false }))
+      × (scrubWanted y ≡ false)
+      × (header y ≡ header x)
+      × (directory y ≡ directory x)
+      × (apartVerdict (count y) 0 [] (directory y) ≡ fine)
+      × (scan y ≡ uncorrected r)
+  unfolding mendVerdict
+  fresh =
+      let v = passed-both (parseVerdict y) (apartVerdict (count y) 0 [] (directory y)) fine-again in
+      let long : headerLength (count y) ≤ length y = accepted-image y (v .0) .long in (
+        parses y long (stays .copies) (v .0) ∙ ap (λ (n : ℕ). accepted (record { regions = n; prologueDisagreed = false; directoryDisagreed = false })) (same .count≡),
+        none-wanted y long (stays .copies),
+        same-header y x same,
+        same-directory y x same,
+        v .1,
+        scan-again ∙ ap uncorrected (m .report),
+      )
+
+  -- ---- scrub
+
+  scrubbed : Scrubs x (examined x) (scrubAll (examined x) x)
+  scrubbed = scrubs (length x) x b refl (apart x (m .verdict))
+
+  pub scrub-same : (scrub x .report ≡ r)
+      × (length (scrub x .image) ≡ length y)
+      × ((p : ℕ) → headerLength (count x) ≤ p → ((q c : ℕ) → Among q c (examined x) → c ≡ p → ⊥) → at (scrub x .image) p ≡ at y p)
+      × ((p : ℕ) → p < headerLength (count x) → at (scrub x .image) p ≡ at x p)
+      × ((q c : ℕ) → Among q c (examined x) → at (scrub x .image) c ≡ at x c)
+  scrub-same =
+      rw (scrub-is x (m .verdict) b) (
+        m .report,
+        scrubbed .size ∙ sym (m .rule .size),
+        λ p l n. rest p l n (classify (examined x) p),
+        λ p l. scrubbed .others p (λ q c i e. let g = past x (m .verdict) q c i .0 in omega arith),
+        λ q c i. scrubbed .others c (λ q′ c′ j. check-out (apart x (m .verdict)) q c q′ c′ i j),
+      )
+    where
+      rest : (p : ℕ) → headerLength (count x) ≤ p → ((q c : ℕ) → Among q c (examined x) → c ≡ p → ⊥) → Where p (examined x) → at (scrubAll (examined x) x) p ≡ at y p
+      rest p l n (inWord q c i e) = same-in-word (scrubAll (examined x) x) y q p (scrubbed .bytes) (m .rule .bytes) (scrubbed .words q c i ∙ sym (m .rule .words q c i)) e
+      rest p l n (isCheck q c i e) = absurd (n q c i e)
+      rest p l n (neither f g) = scrubbed .others p f ∙ sym (m .rule .others p (record { past = l; noWord = f; noCheck = g }))

@@ -1,0 +1,2 @@
+pub mod PlaneLaw
+pub mod OneAnswer

@@ -1,0 +1,348 @@
+-- The writer's image read back: its directory, its examined words, that its bytes are in order and that mend accepts it. Assumes nothing.
+use mathlib.Core.Path.{_≡_, refl, sym, ap, ap₂, _∙_, subst}
+use mathlib.Core.Bool.{Bool, true, false, cond}
+use mathlib.Core.List.{List, [], _∷_, _++_, append-assoc}
+use Prim.Native.Nat.{ℕ, zero, suc, _+_, _*_, _≤_, _<_}
+use native.Mathlib.Nat.{sub-le}
+use native.Mathlib.Omega.{arith}
+use lib.Dec.{ltb, lit<}
+use lib.ListN.{length, take, drop, replicate, length-append}
+use Rattle.paper.specs.Bytes.{at, read, le, thrice, Bytes}
+use Rattle.paper.specs.Refusals.{fine}
+use Rattle.paper.specs.Crc.{allOnes, sent, serialR, crc32}
+use Rattle.paper.specs.Layout.{voted, prologue, countIn, count, headerLength, directoryBytesOf, directoryBytes, header, Entry, entryOf, entries, directoryOf, directory}
+use Rattle.paper.specs.Parse.{prologueVerdict, parseVerdict}
+use Rattle.paper.specs.Scan.{Among, examined, visitsAny}
+use Rattle.paper.specs.Mend.{mendVerdict}
+use Rattle.paper.specs.Writer.{Row, flagged, planeWords, rowEntries, planeEntry, planeEntries, rowWords, planesWords, planes, regions, firstWord, planDirectory, entryBytes, entriesBytes, prologueStart, prologueBytes, checks, planeBytes, planesBytes, imageOf, imageLength}
+use Rattle.paper.proofs.BytesLaw.{read-le, at-left, at-right, length-thrice}
+use Rattle.paper.proofs.ParseLaw.{good-prologue, entries-say}
+use Rattle.laws.proofs.HeaderLaw.{voted-copies, copies-first, copies-second}
+use Rattle.laws.proofs.BytesLow.{bytes-nil, bytes-append, bytes-thrice, bytes-le, bytes-take}
+use Rattle.laws.proofs.CodeLaw.{check-low}
+use Rattle.laws.proofs.EntriesLaw.{EntriesOK, entries-fine}
+use Rattle.laws.proofs.MendLaw.{InOrder}
+use Rattle.laws.proofs.PlanLaw.{RowsOK, PlanOK, Packed, packed-append, packed-rows, packed-planes, Before, packed-apart, directory-ok}
+use Rattle.laws.proofs.PlanPairs.{pairsPlan, plan-pairs, plan-visits, length-planes, checked}
+
+-- ---- entries read back
+
+pub record Fits (e : Entry) : Type 0 where
+  pub kind : e .kind < 65536
+  pub flags : e .flags < 65536
+  pub offset : e .offset < 4294967296
+  pub words : e .words < 4294967296
+  pub covers : e .covers < 65536
+  pub spare : e .spare < 65536
+
+entry-back : (e : Entry) (r : List ℕ) → Fits e → entryOf (entryBytes e ++ r) ≡ e
+unfolding entryOf entryBytes read le
+entry-back e r f =
+    λ i.
+    record {
+      kind = read-le 2 (e .kind) [] (f .kind) i;
+      flags = read-le 2 (e .flags) [] (f .flags) i;
+      offset = read-le 4 (e .offset) [] (f .offset) i;
+      words = read-le 4 (e .words) [] (f .words) i;
+      covers = read-le 2 (e .covers) [] (f .covers) i;
+      spare = read-le 2 (e .spare) [] (f .spare) i;
+    }
+
+pub data AllFit : List Entry → Type 0 where
+  nil : AllFit []
+  cons : {e : Entry} {es : List Entry} → Fits e → AllFit es → AllFit (e ∷ es)
+
+drop-entry : (e : Entry) (r : List ℕ) → drop 16 (entryBytes e ++ r) ≡ r
+unfolding entryBytes le
+drop-entry e r = refl
+
+pub entries-back : (es : List Entry) → AllFit es → entries (length es) (entriesBytes es) ≡ es
+unfolding entries entriesBytes
+entries-back es nil = refl
+entries-back es (cons {e = e} {es = fs} f g) =
+    ap₂ _∷_ (entry-back e (entriesBytes fs) f) (ap (entries (length fs)) (drop-entry e (entriesBytes fs)) ∙ entries-back fs g)
+
+length-entry : (e : Entry) → length (entryBytes e) ≡ 16
+unfolding entryBytes le
+length-entry e = refl
+
+pub length-entriesBytes : (es : List Entry) → length (entriesBytes es) ≡ 16 * length es
+unfolding entriesBytes
+length-entriesBytes [] = refl
+length-entriesBytes (e ∷ es) = omega (arith, length-append (entryBytes e) (entriesBytes es), length-entry e, length-entriesBytes es)
+
+-- ---- the plan's directory
+
+pub length-rows : (a : ℕ) (rs : List Row) → length (rowEntries a rs) ≡ length rs
+unfolding rowEntries
+length-rows a [] = refl
+length-rows a (r ∷ rs) = ap suc (length-rows (a + r .words) rs)
+
+length-plane-entries : (a : ℕ) (rs : List Row) → length (planeEntries a rs) ≡ planes rs
+unfolding planeEntries planes
+length-plane-entries a [] = refl
+length-plane-entries a (r ∷ rs) = go (λ m. length-plane-entries m rs) (flagged r)
+  where
+    go : ((m : ℕ) → length (planeEntries m rs) ≡ planes rs) → (t : Bool)
+        → length (cond t (planeEntry a r ∷ planeEntries (a + planeWords r) rs) (planeEntries a rs)) ≡ cond t 1 0 + planes rs
+    go f true = let h = f (a + planeWords r) in omega arith
+    go f false = let h = f a in omega arith
+
+pub length-directory : (rs : List Row) → length (planDirectory rs) ≡ regions rs
+unfolding planDirectory regions
+length-directory rs =
+    omega (
+      arith,
+      length-append (rowEntries (firstWord rs) rs) (planeEntries (firstWord rs + rowWords rs) rs),
+      length-rows (firstWord rs) rs,
+      length-plane-entries (firstWord rs + rowWords rs) rs,
+    )
+
+fit-append : {es fs : List Entry} → AllFit es → AllFit fs → AllFit (es ++ fs)
+fit-append nil g = g
+fit-append (cons f h) g = cons f (fit-append h g)
+
+fit-rows : (a : ℕ) (rs : List Row) → RowsOK rs → a + rowWords rs < 4294967296 → AllFit (rowEntries a rs)
+unfolding rowEntries rowWords
+fit-rows a rs RowsOK.nil h = nil
+fit-rows a rs (RowsOK.cons {r = r} {rs = ss} k f n o) h =
+    cons {e = record { kind = r .kind; flags = r .flags; offset = a; words = r .words; covers = 0; spare = 0 }}
+    (record { kind = omega arith; flags = omega arith; offset = omega arith; words = omega arith; covers = lit< tt; spare = lit< tt })
+    (fit-rows (a + r .words) ss o (omega arith))
+
+fit-planes : (a : ℕ) (rs : List Row) → RowsOK rs → a + planesWords rs < 4294967296 → AllFit (planeEntries a rs)
+unfolding planeEntries planesWords planeEntry
+fit-planes a rs RowsOK.nil h = nil
+fit-planes a rs (RowsOK.cons {r = r} {rs = ss} k f n o) h = go (λ m l. fit-planes m ss o l) (flagged r) h
+  where
+    go : ((m : ℕ) → m + planesWords ss < 4294967296 → AllFit (planeEntries m ss)) → (t : Bool)
+        → a + (cond t (planeWords r) 0 + planesWords ss) < 4294967296
+        → AllFit (cond t (planeEntry a r ∷ planeEntries (a + planeWords r) ss) (planeEntries a ss))
+    go g true l =
+        cons {e = planeEntry a r} (record { kind = omega arith; flags = lit< tt; offset = omega arith; words = omega arith; covers = omega arith; spare = lit< tt })
+        (g (a + planeWords r) (omega arith))
+    go g false l = g a (omega arith)
+
+pub fit-directory : (rs : List Row) → RowsOK rs → imageLength rs ≤ 8388608 → AllFit (planDirectory rs)
+unfolding planDirectory imageLength
+fit-directory rs o h =
+    fit-append (fit-rows (firstWord rs) rs o (omega arith)) (fit-planes (firstWord rs + rowWords rs) rs o (omega arith))
+
+-- ---- the prologue
+
+length-start : (n : ℕ) → length (prologueStart n) ≡ 12
+unfolding prologueStart le
+length-start n = refl
+
+pub length-prologueBytes : (n : ℕ) → length (prologueBytes n) ≡ 16
+unfolding prologueBytes prologueStart le
+length-prologueBytes n = refl
+
+count-back : (n : ℕ) → n < 65536 → countIn (prologueBytes n) ≡ n
+unfolding countIn prologueBytes prologueStart le read
+count-back n h = read-le 2 n [] h
+
+crc-small : (bs : List ℕ) → crc32 bs < 4294967296
+unfolding crc32
+crc-small bs = omega (arith, sub-le allOnes (serialR allOnes (sent bs)))
+
+take-start : (n : ℕ) → take 12 (prologueBytes n) ≡ prologueStart n
+unfolding prologueBytes prologueStart le
+take-start n = refl
+
+read-crc : (n : ℕ) → read 4 (prologueBytes n) 12 ≡ crc32 (prologueStart n)
+unfolding prologueBytes prologueStart le read
+read-crc n = read-le 4 (crc32 (prologueStart n)) [] (crc-small (prologueStart n))
+
+read-magic : (n : ℕ) → read 4 (prologueBytes n) 0 ≡ 0x4B415558
+unfolding prologueBytes prologueStart le read
+read-magic n = refl
+
+read-marker : (n : ℕ) → read 2 (prologueBytes n) 4 ≡ 0xFEFF
+unfolding prologueBytes prologueStart le read
+read-marker n = refl
+
+read-version : (n : ℕ) → read 2 (prologueBytes n) 6 ≡ 2
+unfolding prologueBytes prologueStart le read
+read-version n = refl
+
+prologue-fine : (n : ℕ) → n ≤ 1024 → prologueVerdict (prologueBytes n) ≡ fine
+prologue-fine n h =
+    good-prologue (prologueBytes n) (read-magic n) (read-marker n) (read-version n) (read-crc n ∙ ap crc32 (sym (take-start n)))
+    (subst (λ (m : ℕ). m ≤ 1024) (sym (count-back n (omega arith))) h)
+
+-- ---- bytes
+
+bytes-checks : (n : ℕ) (b : List ℕ) (p : ℕ) → at (checks n b) p < 256
+unfolding checks
+bytes-checks zero b p = lit< tt
+bytes-checks (suc n) b zero = check-low (read 8 b 0)
+bytes-checks (suc n) b (suc p) = bytes-checks n (drop 8 b) p
+
+bytes-zeros : (n p : ℕ) → at (replicate n 0) p < 256
+bytes-zeros zero p = lit< tt
+bytes-zeros (suc n) zero = lit< tt
+bytes-zeros (suc n) (suc p) = bytes-zeros n p
+
+bytes-planes : (rs : List Row) (b : List ℕ) → Bytes (planesBytes rs b)
+unfolding planesBytes planeBytes
+bytes-planes [] b = bytes-nil
+bytes-planes (r ∷ rs) b =
+    bytes-append (cond (flagged r) (planeBytes r b) []) (planesBytes rs (drop (8 * r .words) b)) (go (flagged r)) (bytes-planes rs (drop (8 * r .words) b))
+  where
+    go : (t : Bool) → Bytes (cond t (planeBytes r b) [])
+    go true =
+        bytes-take (8 * planeWords r) (checks (r .words) b ++ replicate 8 0)
+        (bytes-append (checks (r .words) b) (replicate 8 0) (record { small = bytes-checks (r .words) b }) (record { small = bytes-zeros 8 }))
+    go false = bytes-nil
+
+bytes-entry : (e : Entry) → Bytes (entryBytes e)
+unfolding entryBytes
+bytes-entry e =
+    bytes-append (le 2 (e .kind)) (le 2 (e .flags) ++ (le 4 (e .offset) ++ (le 4 (e .words) ++ (le 2 (e .covers) ++ le 2 (e .spare))))) (bytes-le 2 (e .kind))
+    (bytes-append (le 2 (e .flags)) (le 4 (e .offset) ++ (le 4 (e .words) ++ (le 2 (e .covers) ++ le 2 (e .spare)))) (bytes-le 2 (e .flags))
+    (bytes-append (le 4 (e .offset)) (le 4 (e .words) ++ (le 2 (e .covers) ++ le 2 (e .spare))) (bytes-le 4 (e .offset))
+    (bytes-append (le 4 (e .words)) (le 2 (e .covers) ++ le 2 (e .spare)) (bytes-le 4 (e .words))
+    (bytes-append (le 2 (e .covers)) (le 2 (e .spare)) (bytes-le 2 (e .covers)) (bytes-le 2 (e .spare))))))
+
+bytes-entries : (es : List Entry) → Bytes (entriesBytes es)
+unfolding entriesBytes
+bytes-entries [] = bytes-nil
+bytes-entries (e ∷ es) = bytes-append (entryBytes e) (entriesBytes es) (bytes-entry e) (bytes-entries es)
+
+bytes-start : (n : ℕ) → Bytes (prologueStart n)
+unfolding prologueStart
+bytes-start n =
+    bytes-append (le 4 0x4B415558) (le 2 0xFEFF ++ (le 2 2 ++ (le 2 n ++ le 2 0))) (bytes-le 4 0x4B415558)
+    (bytes-append (le 2 0xFEFF) (le 2 2 ++ (le 2 n ++ le 2 0)) (bytes-le 2 0xFEFF)
+    (bytes-append (le 2 2) (le 2 n ++ le 2 0) (bytes-le 2 2) (bytes-append (le 2 n) (le 2 0) (bytes-le 2 n) (bytes-le 2 0))))
+
+bytes-prologue : (n : ℕ) → Bytes (prologueBytes n)
+unfolding prologueBytes
+bytes-prologue n = bytes-append (prologueStart n) (le 4 (crc32 (prologueStart n))) (bytes-start n) (bytes-le 4 (crc32 (prologueStart n)))
+
+-- ---- the image
+
+module _ (rs : List Row) (payload : List ℕ) (ok : PlanOK rs payload) where
+  n : ℕ
+  n = regions rs
+
+  P : List ℕ
+  P = prologueBytes (regions rs)
+
+  D : List ℕ
+  D = entriesBytes (planDirectory rs)
+
+  B : List ℕ
+  B = payload ++ planesBytes rs payload
+
+  length-D : length D ≡ 16 * regions rs
+  unfolding D
+  length-D = length-entriesBytes (planDirectory rs) ∙ ap (λ (m : ℕ). 16 * m) (length-directory rs)
+
+  split : imageOf rs payload ≡ (thrice P ++ thrice D) ++ B
+  unfolding imageOf P D B
+  split = sym (append-assoc (thrice P) (thrice D) B)
+
+  length-head : length (thrice P ++ thrice D) ≡ headerLength (regions rs)
+  unfolding P
+  length-head =
+      omega (arith, length-append (thrice P) (thrice D), length-thrice P 16 (length-prologueBytes (regions rs)), length-thrice D (16 * regions rs) length-D)
+
+  in-head : (i : ℕ) → i < headerLength (regions rs) → at (imageOf rs payload) i ≡ at (thrice P ++ thrice D) i
+  in-head i h = ap (λ (l : List ℕ). at l i) split ∙ at-left (thrice P ++ thrice D) B (headerLength (regions rs)) i length-head h
+
+  pub in-body : (j : ℕ) → at (imageOf rs payload) (headerLength (regions rs) + j) ≡ at (payload ++ planesBytes rs payload) j
+  unfolding B
+  in-body j = ap (λ (l : List ℕ). at l (headerLength (regions rs) + j)) split ∙ at-right (thrice P ++ thrice D) B (headerLength (regions rs)) j length-head
+
+  pub written-length : length (imageOf rs payload) ≡ imageLength rs
+  unfolding B imageLength
+  written-length =
+      omega (
+        arith,
+        ap length split,
+        length-append (thrice P ++ thrice D) B,
+        length-head,
+        length-append payload (planesBytes rs payload),
+        length-planes rs payload,
+        ok .full,
+      )
+
+  pub prologue-back : prologue (imageOf rs payload) ≡ prologueBytes (regions rs)
+  unfolding prologue P
+  prologue-back =
+      voted-copies (imageOf rs payload) 0 16 P (length-prologueBytes (regions rs))
+      (copies-first (imageOf rs payload) P D (16 * regions rs) (length-prologueBytes (regions rs)) length-D (λ i h. in-head i (omega arith)))
+
+  pub count-is : count (imageOf rs payload) ≡ regions rs
+  unfolding count
+  count-is = ap countIn prologue-back ∙ count-back (regions rs) (omega (arith, ok .few))
+
+  pub directoryBytes-back : directoryBytes (imageOf rs payload) ≡ entriesBytes (planDirectory rs)
+  unfolding directoryBytes directoryBytesOf D P
+  directoryBytes-back =
+      ap (λ (m : ℕ). voted 48 (16 * m) (imageOf rs payload)) count-is
+      ∙ voted-copies (imageOf rs payload) 48 (16 * regions rs) D length-D
+      (copies-second (imageOf rs payload) P D (16 * regions rs) (length-prologueBytes (regions rs)) length-D (λ i h. in-head i (omega arith)))
+
+  pub directory-back : directory (imageOf rs payload) ≡ planDirectory rs
+  unfolding directory directoryOf directoryBytes
+  directory-back =
+      ap₂ entries (count-is ∙ sym (length-directory rs)) directoryBytes-back
+      ∙ entries-back (planDirectory rs) (fit-directory rs (ok .rows) (ok .small))
+
+  header-back : header (imageOf rs payload) ≡ thrice P ++ thrice D
+  unfolding header P D
+  header-back = ap₂ (λ (p d : List ℕ). thrice p ++ thrice d) prologue-back directoryBytes-back
+
+  entries-in : EntriesOK (imageLength rs) (planDirectory rs)
+  entries-in = directory-ok (imageLength rs) rs (ok .rows) (omega arith)
+
+  pub examined-back : examined (imageOf rs payload) ≡ pairsPlan rs (firstWord rs) (firstWord rs + rowWords rs)
+  unfolding examined planDirectory
+  examined-back =
+      rw (written-length, directory-back) (plan-pairs (imageLength rs) (firstWord rs) (firstWord rs + rowWords rs) rs (ok .rows) entries-in)
+
+  pub visits-back : visitsAny (length (imageOf rs payload)) (directory (imageOf rs payload)) (directory (imageOf rs payload)) ≡ ltb 0 (planes rs)
+  unfolding planDirectory
+  visits-back =
+      rw (written-length, directory-back) (plan-visits (imageLength rs) (firstWord rs) (firstWord rs + rowWords rs) rs (ok .rows) entries-in)
+
+  bytes-image : Bytes payload → Bytes (imageOf rs payload)
+  unfolding imageOf
+  bytes-image b =
+      bytes-append (thrice (prologueBytes (regions rs))) (thrice (entriesBytes (planDirectory rs)) ++ (payload ++ planesBytes rs payload))
+      (bytes-thrice (prologueBytes (regions rs)) (bytes-prologue (regions rs)))
+      (bytes-append (thrice (entriesBytes (planDirectory rs))) (payload ++ planesBytes rs payload)
+      (bytes-thrice (entriesBytes (planDirectory rs)) (bytes-entries (planDirectory rs)))
+      (bytes-append payload (planesBytes rs payload) b (bytes-planes rs payload)))
+
+  pub in-order : Bytes payload → InOrder (imageOf rs payload)
+  in-order b =
+      record {
+        bytes = bytes-image b;
+        copies = λ p h. in-head p (subst (λ (m : ℕ). p < headerLength m) count-is h) ∙ ap (λ (l : List ℕ). at l p) (sym header-back);
+        checks = λ q c i.
+            checked (imageOf rs payload) rs (firstWord rs) (firstWord rs + rowWords rs) payload
+            (λ j h. let e : 8 * firstWord rs + j ≡ headerLength (regions rs) + j = omega arith in
+            ap (at (imageOf rs payload)) e ∙ in-body j ∙ at-left payload (planesBytes rs payload) (8 * rowWords rs) j (ok .full) h)
+            (λ j h. let e : 8 * (firstWord rs + rowWords rs) + j ≡ headerLength (regions rs) + (8 * rowWords rs + j) = omega arith in
+            ap (at (imageOf rs payload)) e ∙ in-body (8 * rowWords rs + j) ∙ at-right payload (planesBytes rs payload) (8 * rowWords rs) j (ok .full))
+            q c (subst (Among q c) examined-back i);
+      }
+
+  pub parse-fine : parseVerdict (imageOf rs payload) ≡ fine
+  unfolding imageLength
+  parse-fine =
+      let l : headerLength (count (imageOf rs payload)) ≤ length (imageOf rs payload) = rw (count-is, written-length) (omega arith) in
+      entries-say (imageOf rs payload) (omega arith) (ap prologueVerdict prologue-back ∙ prologue-fine (regions rs) (ok .few)) l
+      ∙ rw (written-length, directory-back) (entries-fine (imageLength rs) 0 (planDirectory rs) entries-in)
+
+  packed : Packed (firstWord rs) (planDirectory rs) (firstWord rs + rowWords rs + planesWords rs)
+  unfolding planDirectory
+  packed = packed-append (packed-rows (firstWord rs) rs) (packed-planes (firstWord rs + rowWords rs) rs)
+
+  pub mend-fine : mendVerdict (imageOf rs payload) ≡ fine
+  unfolding mendVerdict
+  mend-fine = rw (parse-fine, count-is, directory-back) (packed-apart (regions rs) 0 [] (omega arith) packed Before.nil)

@@ -1,0 +1,16 @@
+pub mod VerdictLaw
+pub mod BytesLow
+pub mod HeaderLaw
+pub mod EntriesLaw
+pub mod PairLaw
+pub mod CodeLaw
+pub mod Fold
+pub mod Apart
+pub mod MendLaw
+pub mod HeaderHalf
+pub mod StoredLaw
+pub mod ScrubLaw
+pub mod PlanLaw
+pub mod PlanPairs
+pub mod ImageLaw
+pub mod AppendLaw

@@ -1,0 +1,1 @@
+// Laws of the paper's definitions that code and demands cite: theorems only.

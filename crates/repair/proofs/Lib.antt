@@ -1,0 +1,3 @@
+pub mod OutcomeLaw
+pub mod ScrubbingLaw
+pub mod ProtectedLaw

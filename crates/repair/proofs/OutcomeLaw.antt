@@ -1,0 +1,63 @@
+-- What a decoded word says of its class, and a part of the image that is put back. Assumes nothing.
+use mathlib.Core.Path.{_≡_, refl, sym, ap, _∙_}
+use mathlib.Core.List.{List, [], _∷_, _++_, append-assoc}
+use Prim.Native.Nat.{ℕ, _+_, _-_, _*_, _≤_}
+use native.Mathlib.Omega.{arith}
+use borrow.Rule.Slice.PartMut.{putMid, post-is}
+use lib.ListN.{length, take, drop}
+use lib.Seq.{sets, sets-eq}
+use Rattle.paper.specs.Bytes.{at, wordAt, le}
+use Rattle.paper.specs.Parity.{Class, clean, flipped, beyond, flipWord, decode, Outcome, cleanWord, correctedWord, uncorrectableWord, outcomeAs, outcome}
+use Rattle.paper.specs.Scan.{Pair, classAt}
+use Rattle.paper.specs.Scrub.{storedWord}
+
+-- a part that comes back with other bytes, as many as it had
+pub put-part : (x ys : List ℕ) (a b : ℕ) → a ≤ b → b ≤ length x → length ys ≡ b - a → putMid a (b - a) x ys ≡ sets x a ys
+put-part x ys a b h l e =
+    let n : a + length ys ≡ b = omega arith in
+    ap (λ (z : List ℕ). take a x ++ (ys ++ z)) (post-is a b x h ∙ ap (λ (k : ℕ). drop k x) (sym n))
+    ∙ sym (sets-eq ys x a (omega arith) ∙ append-assoc (take a x) ys (drop (a + length ys) x))
+
+told-clean : (k : Class) (w v : ℕ) → cleanWord v ≡ outcomeAs k w → k ≡ clean
+told-clean clean w v e = refl
+told-clean (flipped i) w v e = cc
+told-clean beyond w v e = cc
+
+told-beyond : (k : Class) (w : ℕ) → uncorrectableWord ≡ outcomeAs k w → k ≡ beyond
+told-beyond clean w e = cc
+told-beyond (flipped i) w e = cc
+told-beyond beyond w e = refl
+
+told-flipped : (k : Class) (w v : ℕ) → correctedWord v ≡ outcomeAs k w → (i : ℕ) × (k ≡ flipped i) × (v ≡ flipWord i w)
+told-flipped clean w v e = let z : _≡_ {A = ℕ} 0 1 = cc in absurd (omega arith)
+told-flipped (flipped i) w v e = (i, refl, cc)
+told-flipped beyond w v e = let z : _≡_ {A = ℕ} 0 1 = cc in absurd (omega arith)
+
+-- ---- a word and its check byte as they stand in x
+
+module _ (x : List ℕ) (p : Pair) where
+  class-clean : (v : ℕ) → cleanWord v ≡ outcome (wordAt x (p .word)) (at x (p .check)) → classAt x p ≡ clean
+  unfolding outcome classAt
+  class-clean v e = told-clean (decode (wordAt x (p .word)) (at x (p .check))) (wordAt x (p .word)) v e
+
+  class-beyond : uncorrectableWord ≡ outcome (wordAt x (p .word)) (at x (p .check)) → classAt x p ≡ beyond
+  unfolding outcome classAt
+  class-beyond e = told-beyond (decode (wordAt x (p .word)) (at x (p .check))) (wordAt x (p .word)) e
+
+  pub class-flipped : (v : ℕ) → correctedWord v ≡ outcome (wordAt x (p .word)) (at x (p .check))
+      → (i : ℕ) × (classAt x p ≡ flipped i) × (v ≡ flipWord i (wordAt x (p .word)))
+  unfolding outcome classAt
+  class-flipped v e = told-flipped (decode (wordAt x (p .word)) (at x (p .check))) (wordAt x (p .word)) v e
+
+  -- what scrub leaves
+  pub kept-clean : (v : ℕ) → cleanWord v ≡ outcome (wordAt x (p .word)) (at x (p .check)) → x ≡ storedWord (classAt x p) p x
+  kept-clean v e = ap (λ (k : Class). storedWord k p x) (sym (class-clean v e))
+
+  pub kept-lost : uncorrectableWord ≡ outcome (wordAt x (p .word)) (at x (p .check)) → x ≡ storedWord (classAt x p) p x
+  kept-lost e = ap (λ (k : Class). storedWord k p x) (sym (class-beyond e))
+
+  pub put-back : (v : ℕ) → correctedWord v ≡ outcome (wordAt x (p .word)) (at x (p .check))
+      → sets x (8 * p .word) (le 8 v) ≡ storedWord (classAt x p) p x
+  put-back v e =
+      let f = class-flipped v e in
+      ap (λ (n : ℕ). sets x (8 * p .word) (le 8 n)) (f .2) ∙ ap (λ (k : Class). storedWord k p x) (sym (f .1))

@@ -1,0 +1,167 @@
+-- `repair::scrubbing::scrub` meets its contract. The invariant: the regions that are left take the state where it has to go, and what was
+-- not written since the last parse is known to parse. Assumes nothing.
+use mathlib.Core.Path.{_≡_, refl, sym, ap, ap₂, _∙_, subst}
+use mathlib.Core.Logic.{⊎-elim}
+use mathlib.Core.Bool.{false, not}
+use mathlib.Core.List.{List}
+use mathlib.Core.Option.{none}
+use Prim.Native.Nat.{ℕ, suc, _+_, _-_, _*_, _^_, _≤_, _<_}
+use native.Mathlib.Omega.{arith}
+use borrow.Author.Needs.{needs}
+use denote.Ref.{now}
+use lib.ListN.{length, take}
+use Rattle.paper.specs.Refusals.{fine}
+use Rattle.paper.specs.Layout.{count}
+use Rattle.paper.specs.Parse.{parseVerdict}
+use Rattle.paper.specs.Scrub.{State, Scrubbed, scrubFrom, reported}
+use Rattle.paper.specs.Scrub as paper
+use Rattle.view.specs.declared.header.Header.{Header}
+use Rattle.view.proofs.AnswersLaw.{parsed-fine, parsed-count, parsed-refused}
+use Rattle.repair.specs.Answers.{asState, scrubIn, Room}
+use Rattle.repair.specs.declared.scrubbing.Counts.{Counts}
+use Rattle.repair.proofs.ScrubbingLaw.{region-is, region-same, from-next, from-failed, from-done, scrub-failed, scrub-starts}
+use Rattle.repair.proofs.scrubbing.scrub.Statement.{statement}
+use Rattle.repair.proofs.scrubbing.scrub.Tie as tie
+
+-- x is known to parse, with that many regions
+record Checked (x : List ℕ) (h : Header) : Type 0 where
+  fine-now : parseVerdict x ≡ fine
+  count-now : h .«region_count» ≡ count x
+
+-- a turn: region i is scrubbed in an image that is known to parse
+module _ (i : ℕ) (t t′ : Counts) (x y : List ℕ) (h : Header) (k : Checked x h) (e : asState t′ y ≡ scrubIn (h .«region_count») i (asState t x)) where
+  turn : (x₀ : List ℕ) (n : ℕ) → i < n → scrubFrom (n - i) i (asState t x) ≡ paper.scrub x₀ → scrubFrom (n - (i + 1)) (i + 1) (asState t′ y) ≡ paper.scrub x₀
+  turn x₀ n l f =
+      let m : n - i ≡ suc (n - (i + 1)) = omega arith in
+      let j : i + 1 ≡ suc i = omega arith in
+      ap₂ (scrubFrom (n - (i + 1))) j (e ∙ region-is (h .«region_count») i (asState t x) (k .fine-now) (k .count-now))
+      ∙ sym (ap (λ (z : ℕ). scrubFrom z i (asState t x)) m ∙ from-next (n - (i + 1)) i (asState t x) (k .fine-now)) ∙ f
+
+  -- where nothing was corrected, the image is the same
+  still : t .corrected ≡ t′ .corrected → Checked y h
+  still f =
+      let g = ap (λ (s : State). s .corrected) e in
+      let z : y ≡ x = ap (λ (s : State). s .image) e ∙ region-same (h .«region_count») i (asState t x) (sym g ∙ sym f) in
+      subst (λ (w : List ℕ). Checked w h) (sym z) k
+
+abbrev record-of : State → Scrubbed
+record-of s = record { image = s .image; report = reported s }
+
+abbrev Inv-loop : tie.InvT-loop
+Inv-loop bytes₀ first header₀ written₀ counts₀ i₀ bytes header written counts i = (i ≤ first .«region_count») × (length bytes ≡ length bytes₀) × (counts .words ≤ i * 2 ^ 32) × Room 0 counts × (scrubFrom (first .«region_count» - i) i (asState counts bytes) ≡ paper.scrub bytes₀) × (written ≡ counts .corrected → Checked bytes header)
+
+abbrev μ-loop : tie.MeasureT-loop
+μ-loop bytes₀ first header₀ written₀ counts₀ i₀ bytes header written counts i = first .«region_count» - i
+
+returns : tie.Need-returns Inv-loop μ-loop
+returns c =
+    let p = c .before .before in
+    let x = now (p .before .before .before .args .bytes) in
+    let e = scrub-failed x _ _ (parsed-refused x (p .parse .result) (p .parse .ensures) _ (c .enum-told .given .1)) in
+    (ap (λ (s : Scrubbed). s .report) (sym e), ap (λ (s : Scrubbed). s .image) (sym e))
+
+loop-holds : tie.Need-loop-holds Inv-loop μ-loop
+loop-holds c =
+    let p = c .before .before .before in
+    let x = now (p .before .before .before .args .bytes) in
+    let f = parsed-fine x (p .parse .result) (p .parse .ensures) (c .before .first .given .0 .0) (c .before .first .given .1) in
+    let n = parsed-count x (p .parse .result) (p .parse .ensures) (c .before .first .given .0 .0) (c .before .first .given .1) in
+    let z : c .before .first .given .0 .0 .«region_count» - 0 ≡ count x = omega (arith, n) in (
+      omega arith,
+      refl,
+      omega arith,
+      record { words = omega arith; corrected = omega arith; uncorrectable = omega arith },
+      ap (λ (m : ℕ). scrubFrom m 0 (record { image = x; any = false; words = 0; corrected = 0; uncorrectable = 0 })) z ∙ sym (scrub-starts x f),
+      λ e. record { fine-now = f; count-now = n },
+    )
+
+same-length-2 : tie.Need-same-length-2 Inv-loop μ-loop
+same-length-2 c = c .before .before .before .before .before .before .before .before .loop .inv .1
+
+returns-2 : tie.Need-returns-2 Inv-loop μ-loop
+returns-2 c =
+    let p = c .before .before in
+    let a = p .before .before .before .before .before .before in
+    let g = a .before .before .before .before .before .before .before .args in
+    let n = a .before .before .first .given .0 .0 .«region_count» in
+    let z : suc (n - (a .loop .i + 1)) ≡ n - a .loop .i = omega arith in
+    let s = asState (a .loop .counts) (a .loop .bytes) in
+    let e : (record { image = a .loop .bytes; report = none }) ≡ paper.scrub (now (g .bytes)) =
+    sym (from-failed (n - (a .loop .i + 1)) (a .loop .i) s _ _ (parsed-refused (a .loop .bytes) (p .parse2 .result) (p .parse2 .ensures) _ (c .enum-told2 .given .1)))
+    ∙ ap (λ (m : ℕ). scrubFrom m (a .loop .i) s) z ∙ a .loop .inv .4 in
+    (ap (λ (r : Scrubbed). r .report) e, ap (λ (r : Scrubbed). r .image) e)
+
+scrub-region-requires : tie.Need-scrub-region-requires Inv-loop μ-loop
+scrub-region-requires c κs =
+    let a = c .before .before .before .before .before in
+    let r = a .loop .inv .3 in
+    record { words = omega arith; corrected = r .corrected; uncorrectable = r .uncorrectable }
+
+loop-again : tie.Need-loop-again Inv-loop μ-loop
+loop-again c =
+    let o = c .before .before in
+    let j = o .before .before in
+    let a = j .before .before .before .before in
+    let g = a .before .before .before .before .before .before .before .args in
+    let x = a .loop .bytes in
+    let n = a .before .before .first .given .0 .0 .«region_count» in
+    let ready : Checked x (j .if2 .header) × (j .if2 .written ≡ a .loop .counts .corrected) =
+    ⊎-elim
+    (λ w. (
+      record {
+        fine-now = parsed-fine x (w .2 .result) (w .2 .ensures) (w .4 .given .0 .0) (w .4 .given .1);
+        count-now = ap (λ (h : Header). h .«region_count») (w .6) ∙ parsed-count x (w .2 .result) (w .2 .ensures) (w .4 .given .0 .0) (w .4 .given .1);
+      },
+      w .7,
+    ))
+    (λ w. (subst (Checked x) (sym (w .1)) (a .loop .inv .5 (sym (w .0 .left))), w .2 ∙ sym (w .0 .left)))
+    (j .if2 .came) in
+    let t = o .scrub-region .result in
+    let y = o .scrub-region .last .0 in
+    let e = o .scrub-region .ensures .1 in (
+      omega arith,
+      omega (arith, c .before .bytes .given),
+      omega (arith, o .scrub-region .ensures .0 .0),
+      o .scrub-region .ensures .0 .1,
+      turn (a .loop .i) (a .loop .counts) t x y (j .if2 .header) (ready .0) e (now (g .bytes)) n (omega arith) (a .loop .inv .4),
+      λ f. still (a .loop .i) (a .loop .counts) t x y (j .if2 .header) (ready .0) e (sym (ready .1) ∙ f),
+    )
+
+same-length-3 : tie.Need-same-length-3 Inv-loop μ-loop
+same-length-3 c = c .before .before .before .loop .inv .1
+
+returns-3 : tie.Need-returns-3 Inv-loop μ-loop
+returns-3 c =
+    let a = c .before .before .before in
+    let g = a .before .before .before .before .before .before .before .args in
+    let n = a .before .before .first .given .0 .0 .«region_count» in
+    let z : 0 ≡ n - a .loop .i = omega arith in
+    let s = asState (a .loop .counts) (a .loop .bytes) in
+    let e : record-of s ≡ paper.scrub (now (g .bytes)) =
+    sym (from-done (a .loop .i) s) ∙ ap (λ (m : ℕ). scrubFrom m (a .loop .i) s) z ∙ a .loop .inv .4 in
+    (c .report .ensures ∙ ap (λ (r : Scrubbed). r .report) e, ap (λ (r : Scrubbed). r .image) e)
+
+pub scrub-spec : {M : Type 1} → statement M
+scrub-spec =
+    tie.close
+    (tie.spec
+    Inv-loop
+    μ-loop
+    (λ c κs. search needs)
+    (λ c. search needs)
+    (λ c. search needs)
+    (λ c. search needs)
+    returns
+    loop-holds
+    (λ c κs. search needs)
+    (λ c. search needs)
+    (λ c. search needs)
+    same-length-2
+    returns-2
+    scrub-region-requires
+    (λ c. search needs)
+    (λ c. search needs)
+    loop-again
+    (λ c κs. search needs)
+    same-length-3
+    returns-3)

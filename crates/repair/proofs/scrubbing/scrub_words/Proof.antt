@@ -1,0 +1,80 @@
+-- `repair::scrubbing::scrub_words` meets its contract. The invariant: the words that are left take the state where it has to go. Assumes nothing.
+use mathlib.Core.Path.{_≡_, refl, sym, ap, _∙_, subst}
+use Prim.Native.Nat.{ℕ, suc, _+_, _-_, _≤_}
+use native.Mathlib.Omega.{arith}
+use lib.ListN.{length, take}
+use Rattle.paper.specs.Scan.{Pair, pairsFrom, classAt}
+use Rattle.paper.specs.Scrub.{storedWord, scrubWords}
+use Rattle.ecc.specs.Answers.{asOutcome}
+use Rattle.repair.specs.Answers.{asState, Room}
+use Rattle.repair.proofs.ScrubbingLaw.{one-word, stored-length, room-next, words-next, words-done, counted-words}
+use Rattle.repair.specs.declared.scrubbing.Counts.{Counts}
+use Rattle.repair.proofs.scrubbing.scrub_words.Statement.{statement}
+use Rattle.repair.proofs.scrubbing.scrub_words.Tie as tie
+
+abbrev record-pair : ℕ → ℕ → Pair
+record-pair w k = record { word = w; check = k }
+
+abbrev Inv-loop : tie.InvT-loop
+Inv-loop bytes₀ word check n total₀ k₀ bytes total k = (k ≤ n) × (length bytes ≡ length bytes₀) × Room (n - k) total × (scrubWords (pairsFrom (n - k) (word + k) (check + k)) (asState total bytes) ≡ scrubWords (pairsFrom n word check) (asState total₀ bytes₀)) × (total .words ≡ total₀ .words + k)
+
+abbrev μ-loop : tie.MeasureT-loop
+μ-loop bytes₀ word check n total₀ k₀ bytes total k = n - k
+
+loop-holds : tie.Need-loop-holds Inv-loop μ-loop
+loop-holds c =
+    let g = c .before .args in
+    let n : g .n - 0 ≡ g .n = omega arith in
+    let w : g .word + 0 ≡ g .word = omega arith in
+    let k : g .check + 0 ≡ g .check = omega arith in
+    (omega arith, refl, rw n (c .before .pre .2), rw (n, w, k), omega arith)
+
+count-word-requires : tie.Need-count-word-requires Inv-loop μ-loop
+count-word-requires c κs =
+    let r = c .before .before .before .before .before .loop .inv .2 in
+    record { words = omega (arith, r .words); corrected = r .corrected; uncorrectable = r .uncorrectable }
+
+loop-again : tie.Need-loop-again Inv-loop μ-loop
+loop-again c =
+    let v = c .before .before .before in
+    let a = v .before .before .before in
+    let g = a .before .before .args in
+    let p = record-pair (g .word + a .loop .k) (g .check + a .loop .k) in
+    let e : v .scrub-word .last .0 ≡ storedWord (classAt (a .loop .bytes) p) p (a .loop .bytes) = v .scrub-word .ensures .1 in
+    let n : g .n - a .loop .k ≡ suc (g .n - (a .loop .k + 1)) = omega arith in (
+      omega arith,
+      ap length e ∙ stored-length (classAt (a .loop .bytes) p) p (a .loop .bytes) ∙ a .loop .inv .1,
+      subst (Room (g .n - (a .loop .k + 1))) (sym (c .count-word .ensures))
+          (room-next (g .n - (a .loop .k + 1)) (a .loop .total) (asOutcome (v .scrub-word .result)) (subst (λ (m : ℕ). Room m (a .loop .total)) n (a .loop .inv .2))),
+      ap (scrubWords (pairsFrom (g .n - (a .loop .k + 1)) (g .word + (a .loop .k + 1)) (g .check + (a .loop .k + 1))))
+          (ap (λ (z : Counts). asState z (v .scrub-word .last .0)) (c .count-word .ensures)
+          ∙ one-word (a .loop .total) (a .loop .bytes) (v .scrub-word .last .0) p (asOutcome (v .scrub-word .result)) (v .scrub-word .ensures .0) e)
+          ∙ sym (words-next (g .n) (g .word) (g .check) (a .loop .k) (asState (a .loop .total) (a .loop .bytes)) (omega arith)) ∙ a .loop .inv .3,
+      ap (λ (z : Counts). z .words) (c .count-word .ensures) ∙ counted-words (a .loop .total) (asOutcome (v .scrub-word .result)) ∙ omega arith,
+    )
+
+returns : tie.Need-returns Inv-loop μ-loop
+returns c =
+    let a = c .before in
+    let g = a .before .before .args in
+    let r = a .loop .inv .2 in (
+      sym (words-done (g .n) (g .word) (g .check) (a .loop .k) (asState (a .loop .total) (a .loop .bytes)) (omega arith)) ∙ a .loop .inv .3,
+      (omega arith, record { words = omega (arith, r .words); corrected = r .corrected; uncorrectable = r .uncorrectable }),
+    )
+
+pub scrub-words-spec : {M : Type 1} → statement M
+scrub-words-spec =
+    tie.close
+    (tie.spec
+    Inv-loop
+    μ-loop
+    loop-holds
+    (λ c. omega arith)
+    (λ c. omega arith)
+    (λ c κs. omega arith)
+    count-word-requires
+    (λ c. omega arith)
+    (λ c. omega arith)
+    loop-again
+    (λ c. omega arith)
+    returns)

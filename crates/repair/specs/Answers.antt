@@ -1,0 +1,45 @@
+-- The paper's reading of what code carries along. (FORMAT 8)
+use mathlib.Core.Bool.{Bool, true}
+use mathlib.Core.Option.{Option, none, some}
+use mathlib.Core.List.{List}
+use Prim.Native.Nat.{ℕ, _+_, _*_, _^_, _≤_}
+use lib.ListN.{length, drop}
+use Rattle.paper.specs.Layout.{Entry}
+use Rattle.paper.specs.Views.{seen}
+use Rattle.paper.specs.Parity.{Outcome, cleanWord, correctedWord, uncorrectableWord}
+use Rattle.paper.specs.Bytes.{given}
+use Rattle.paper.specs.Scan.{Report, pairsWith}
+use Rattle.paper.specs.Scrub.{State, scrubWords, scrubFirst}
+use Rattle.repair.specs.declared.scrubbing.Counts.{Counts}
+
+-- the counts, with the image as it stands
+abbrev pub asState : Counts → List ℕ → State
+asState c x = record { image = x; any = c .any; words = c .words; corrected = c .corrected; uncorrectable = c .uncorrectable }
+
+-- region i of the image as it stands, with a count n of regions that stands beside it
+unfoldable pub scrubIn : ℕ → ℕ → State → State
+scrubIn n i s =
+    let all = seen n (s .image) in
+    scrubFirst (length (s .image)) all (drop i all) s
+
+-- a protected entry with its plane, or without
+abbrev pub scrubWith : Entry → Option Entry → State → State
+scrubWith e none s = s
+scrubWith e (some p) s =
+    scrubWords (pairsWith e (some p))
+    (record { image = s .image; any = true; words = s .words; corrected = s .corrected; uncorrectable = s .uncorrectable })
+
+-- room for m words more
+pub record Room (m : ℕ) (c : Counts) : Type 0 where
+  pub words : c .words + m ≤ 2 ^ 60
+  pub corrected : c .corrected ≤ c .words
+  pub uncorrectable : c .uncorrectable ≤ c .words
+
+-- one word more, by what became of it
+abbrev pub counted : Counts → Outcome → Counts
+counted c (cleanWord w) = record { any = c .any; words = c .words + 1; corrected = c .corrected; uncorrectable = c .uncorrectable }
+counted c (correctedWord w) = record { any = c .any; words = c .words + 1; corrected = c .corrected + 1; uncorrectable = c .uncorrectable }
+counted c uncorrectableWord = record { any = c .any; words = c .words + 1; corrected = c .corrected; uncorrectable = c .uncorrectable + 1 }
+
+abbrev pub reportedBy : Counts → Option Report
+reportedBy c = given (c .any) (record { words = c .words; corrected = c .corrected; uncorrectable = c .uncorrectable })

@@ -1,0 +1,5 @@
+// Repair of an image in place: scrub, after view.rs.
+mod scrubbing;
+mod words;
+
+pub use scrubbing::scrub;

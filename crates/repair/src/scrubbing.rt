@@ -1,0 +1,182 @@
+// Scrub, as the Rust has it: corrected words are written, counts are handed back. (FORMAT 8)
+ghost use mathlib.Core.Path.{_≡_};
+ghost use mathlib.Core.Bool.{true};
+ghost use Prim.Native.Nat.{ℕ, _+_, _*_, _^_, _<_, _≤_, min};
+ghost use lib.ListN.{length};
+ghost use Rattle.paper.specs.Views.{seen};
+ghost use Rattle.paper.specs.Scan.{pairsFrom, planeOf};
+ghost use Rattle.layout.specs.Regions.{asEntry};
+ghost use Rattle.scan.specs.Answers.{asScan};
+ghost use Rattle.paper.specs.Scrub as paper;
+ghost use Rattle.ecc.specs.Answers.{asOutcome};
+ghost use Rattle.repair.specs.Answers.{asState, scrubIn, scrubWith, Room, counted, reportedBy};
+use super::words::scrub_word;
+use ecc::EccReport;
+use ecc::WordStatus;
+use layout::Region;
+use scan::Scan;
+use tables::PartSpan;
+use tables::Place;
+use tables::region_span;
+use view::Header;
+use view::ParseResult;
+use view::RegionAt;
+use view::ecc_for;
+use view::parse;
+use view::region_at;
+
+// What is counted so far, and whether any region was visited.
+pub(crate) struct Counts {
+    pub any: bool,
+    pub words: usize,
+    pub corrected: usize,
+    pub uncorrectable: usize,
+}
+
+// One word more.
+fn count_word(counts: Counts, status: WordStatus) -> Counts
+    requires { ⌜ Room 1 counts ⌝ }
+    ensures { λ r. ⌜ r ≡ counted counts (asOutcome status) ⌝ }
+{
+    match status {
+        WordStatus::Clean(_) => Counts {
+            any: counts.any,
+            words: counts.words + 1,
+            corrected: counts.corrected,
+            uncorrectable: counts.uncorrectable,
+        },
+        WordStatus::Corrected(_) => Counts {
+            any: counts.any,
+            words: counts.words + 1,
+            corrected: counts.corrected + 1,
+            uncorrectable: counts.uncorrectable,
+        },
+        WordStatus::Uncorrectable => Counts {
+            any: counts.any,
+            words: counts.words + 1,
+            corrected: counts.corrected,
+            uncorrectable: counts.uncorrectable + 1,
+        },
+    }
+}
+
+// n words from word on, with check bytes from check on, ascending.
+fn scrub_words(bytes: &mut [u8], word: usize, check: usize, n: usize, counts: Counts) -> Counts
+    requires { ⌜ (8 * (word + n) ≤ length (now bytes)) × (check + n ≤ length (now bytes)) × Room n counts ⌝ }
+    ensures is { λ r. ⌜ asState r (now (bytes .exit)) ≡ paper.scrubWords (pairsFrom n word check) (asState counts (now (bytes .entry))) ⌝ }
+    ensures grows { λ r. ⌜ (r .words ≤ counts .words + n) × Room 0 r ⌝ }
+{
+    let mut total = counts;
+    let mut k: usize = 0;
+    while k < n {
+        let status = scrub_word(bytes, word + k, check + k);
+        total = count_word(total, status);
+        k += 1;
+    }
+    total
+}
+
+// A region that is no plane and is flagged 2: its words that have a check byte, where it has a plane.
+fn scrub_protected(bytes: &mut [u8], header: Header, region: Region, counts: Counts) -> Counts
+    requires { ⌜ Room (2 ^ 32) counts ⌝ }
+    ensures grows { λ r. ⌜ (r .words ≤ counts .words + 2 ^ 32) × Room 0 r ⌝ }
+    ensures is { λ r. ⌜ asState r (now (bytes .exit)) ≡ scrubWith (asEntry region) (planeOf (length (now (bytes .entry))) (seen (header .«region_count») (now (bytes .entry))) (asEntry region)) (asState counts (now (bytes .entry))) ⌝ }
+{
+    let plane = ecc_for(bytes, header, region);
+    let span = region_span(bytes.len(), region);
+    let Place::At { start, end } = plane else {
+        return counts;
+    };
+    let PartSpan::Bytes { start: _, end: _ } = span else {
+        return counts;
+    };
+    let n = least(region.word_length as usize, end - start);
+    scrub_words(
+        bytes,
+        region.word_offset as usize,
+        start,
+        n,
+        visited(counts),
+    )
+}
+
+fn least(a: usize, b: usize) -> usize
+    ensures { λ r. ⌜ r ≡ min a b ⌝ }
+{
+    if a < b { a } else { b }
+}
+
+fn visited(counts: Counts) -> Counts
+    ensures { λ r. ⌜ r ≡ record { any = true; words = counts .words; corrected = counts .corrected; uncorrectable = counts .uncorrectable } ⌝ }
+{
+    Counts {
+        any: true,
+        words: counts.words,
+        corrected: counts.corrected,
+        uncorrectable: counts.uncorrectable,
+    }
+}
+
+// Entry i of the image as it stands, if there is one.
+fn scrub_region(bytes: &mut [u8], header: Header, i: u16, counts: Counts) -> Counts
+    requires { ⌜ Room (2 ^ 32) counts ⌝ }
+    ensures grows { λ r. ⌜ (r .words ≤ counts .words + 2 ^ 32) × Room 0 r ⌝ }
+    ensures is { λ r. ⌜ asState r (now (bytes .exit)) ≡ scrubIn (header .«region_count») i (asState counts (now (bytes .entry))) ⌝ }
+{
+    let found = region_at(bytes, header, i);
+    let RegionAt::Found(region) = found else {
+        return counts;
+    };
+    if region.is_ecc_plane() {
+        return counts;
+    }
+    if !region.has_ecc() {
+        return counts;
+    }
+    scrub_protected(bytes, header, region, counts)
+}
+
+// Repairs the corrected words of every protected region and hands back counts: what is left has to be checked afresh.
+// The image is parsed again before a region only where something was written since.
+pub fn scrub(bytes: &mut [u8]) -> Scan
+    ensures is { λ r. ⌜ asScan r ≡ paper.scrub (now (bytes .entry)) .report ⌝ }
+    ensures leaves { λ r. ⌜ now (bytes .exit) ≡ paper.scrub (now (bytes .entry)) .image ⌝ }
+{
+    let ParseResult::Parsed(first) = parse(bytes) else {
+        return Scan::Nothing;
+    };
+    let mut header = first;
+    let mut written: usize = 0;
+    let mut counts = Counts {
+        any: false,
+        words: 0,
+        corrected: 0,
+        uncorrectable: 0,
+    };
+    let mut i: u16 = 0;
+    while i < first.region_count {
+        if counts.corrected != written {
+            let ParseResult::Parsed(again) = parse(bytes) else {
+                return Scan::Nothing;
+            };
+            header = again;
+            written = counts.corrected;
+        }
+        counts = scrub_region(bytes, header, i, counts);
+        i += 1;
+    }
+    report(counts)
+}
+
+fn report(counts: Counts) -> Scan
+    ensures { λ r. ⌜ asScan r ≡ reportedBy counts ⌝ }
+{
+    if !counts.any {
+        return Scan::Nothing;
+    }
+    Scan::Report(EccReport {
+        words: counts.words,
+        corrected: counts.corrected,
+        uncorrectable: counts.uncorrectable,
+    })
+}

@@ -1,0 +1,45 @@
+// One word of an image, repaired in its eight bytes. (FORMAT 8)
+ghost use mathlib.Core.Path.{_≡_};
+ghost use Prim.Native.Nat.{ℕ, _+_, _*_, _<_, _≤_};
+ghost use lib.ListN.{length};
+ghost use Rattle.paper.specs.Bytes.{at, wordAt, le};
+ghost use Rattle.paper.specs.Parity.{outcome};
+ghost use Rattle.paper.specs.Scan.{classAt};
+ghost use Rattle.paper.specs.Scrub.{storedWord};
+ghost use Rattle.ecc.specs.Answers.{asOutcome};
+use ecc::WordStatus;
+use ecc::decode_word;
+use scalar::u64_bytes;
+use scalar::u64_or_zero;
+
+// The word's eight bytes, lent to be written.
+pub(crate) fn store_word(part: &mut [u8], value: u64)
+    requires { ⌜ length (now part) ≡ 8 ⌝ }
+    ensures { λ r. ⌜ now (part .exit) ≡ le 8 value ⌝ }
+{
+    let bytes = u64_bytes(value);
+    let mut k: usize = 0;
+    while k < 8 {
+        part[k] = bytes[k];
+        k += 1;
+    }
+}
+
+// A word with its check byte, as they stand. Only a corrected word is written, never its check byte.
+pub(crate) fn scrub_word(bytes: &mut [u8], word: usize, check: usize) -> WordStatus
+    requires { ⌜ (8 * word + 8 ≤ length (now bytes)) × (check < length (now bytes)) ⌝ }
+    ensures is { λ r. ⌜ asOutcome r ≡ outcome (wordAt (now (bytes .entry)) word) (at (now (bytes .entry)) check) ⌝ }
+    ensures stores { λ r. ⌜ now (bytes .exit) ≡ storedWord (classAt (now (bytes .entry)) (record { word = word; check = check })) (record { word = word; check = check }) (now (bytes .entry)) ⌝ }
+{
+    let start = 8 * word;
+    let end = start + 8;
+    let status = decode_word(u64_or_zero(bytes, start), bytes[check]);
+    match status {
+        WordStatus::Clean(_) => {}
+        WordStatus::Corrected(fixed) => {
+            store_word(&mut bytes[start..end], fixed);
+        }
+        WordStatus::Uncorrectable => {}
+    }
+    status
+}

@@ -1,0 +1,158 @@
+// Parts of an image, record tables and pools, after view.rs: plain functions on slices and numbers. (FORMAT 6)
+ghost use mathlib.Core.Path.{_≡_};
+ghost use Prim.Native.Nat.{ℕ, _+_, _*_, _≤_};
+ghost use lib.ListN.{length};
+ghost use Rattle.paper.specs.Views.{bytesSpan, tableSpan, isTable, recordCount, recordRange, rangeIsForward, poolRange, partOf, partIn};
+ghost use Rattle.layout.specs.Regions.{asEntry};
+ghost use Rattle.tables.specs.Answers.{asSpan, asPlace};
+use error::Refusal;
+use layout::Region;
+
+// Where a part of the bytes starts and ends, or why there is none.
+pub enum PartSpan {
+    Bytes { start: usize, end: usize },
+    Refused(Refusal),
+}
+
+// Where a part of the bytes starts and ends, or nothing.
+pub enum Place {
+    At { start: usize, end: usize },
+    Nothing,
+}
+
+// A region's place in an image of len bytes.
+pub fn region_span(len: usize, region: Region) -> PartSpan
+    ensures { λ r. ⌜ asSpan r ≡ bytesSpan len (asEntry region) ⌝ }
+{
+    let start = 8 * (region.word_offset as usize);
+    let end = start + 8 * (region.word_length as usize);
+    if len < end {
+        return PartSpan::Refused(Refusal::RegionOutOfBounds { index: 0 });
+    }
+    PartSpan::Bytes { start, end }
+}
+
+// The very bytes of a region; none if refused.
+pub fn region_bytes(bytes: &[u8], region: Region) -> &[u8]
+    ensures { λ r. ⌜ now r ≡ partOf (now (bytes .entry)) (bytesSpan (length (now (bytes .entry))) (asEntry region)) ⌝ }
+{
+    let span = region_span(bytes.len(), region);
+    match span {
+        PartSpan::Bytes { start, end } => &bytes[start..end],
+        PartSpan::Refused(_) => &bytes[0..0],
+    }
+}
+
+// A region as a table of records of stride bytes.
+pub fn records_span(len: usize, region: Region, stride: usize) -> PartSpan
+    ensures { λ r. ⌜ asSpan r ≡ tableSpan len (asEntry region) stride ⌝ }
+{
+    if stride == 0 {
+        return PartSpan::Refused(Refusal::BadRecordStride);
+    }
+    if stride % 8 != 0 {
+        return PartSpan::Refused(Refusal::BadRecordStride);
+    }
+    let start = 8 * (region.word_offset as usize);
+    let size = 8 * (region.word_length as usize);
+    let end = start + size;
+    if len < end {
+        return PartSpan::Refused(Refusal::RegionOutOfBounds { index: 0 });
+    }
+    if size % stride != 0 {
+        return PartSpan::Refused(Refusal::BadRecordStride);
+    }
+    PartSpan::Bytes { start, end }
+}
+
+pub fn records_bytes(bytes: &[u8], region: Region, stride: usize) -> &[u8]
+    ensures { λ r. ⌜ now r ≡ partOf (now (bytes .entry)) (tableSpan (length (now (bytes .entry))) (asEntry region) stride) ⌝ }
+{
+    let span = records_span(bytes.len(), region, stride);
+    match span {
+        PartSpan::Bytes { start, end } => &bytes[start..end],
+        PartSpan::Refused(_) => &bytes[0..0],
+    }
+}
+
+// Whether bytes in hand are a table of records of stride bytes.
+pub fn is_table(bytes: &[u8], stride: usize) -> bool
+    ensures { λ r. ⌜ r ≡ isTable (length (now (bytes .entry))) stride ⌝ }
+{
+    if stride == 0 {
+        return false;
+    }
+    if stride % 8 != 0 {
+        return false;
+    }
+    bytes.len() % stride == 0
+}
+
+// A stride of 0 has no records.
+pub fn record_count(bytes: &[u8], stride: usize) -> usize
+    ensures { λ r. ⌜ r ≡ recordCount (length (now (bytes .entry))) stride ⌝ }
+{
+    if stride == 0 { 0 } else { bytes.len() / stride }
+}
+
+// Record index of a table of len bytes.
+pub fn record_place(len: usize, stride: usize, index: usize) -> Place
+    ensures { λ r. ⌜ asPlace r ≡ recordRange len stride index ⌝ }
+{
+    if stride == 0 {
+        return Place::Nothing;
+    }
+    if index < len / stride {
+        let start = index * stride;
+        Place::At {
+            start,
+            end: start + stride,
+        }
+    } else {
+        Place::Nothing
+    }
+}
+
+// The very bytes of a record; none where there is no such record.
+pub fn record_bytes(bytes: &[u8], stride: usize, index: usize) -> &[u8]
+    ensures { λ r. ⌜ now r ≡ partIn (now (bytes .entry)) (recordRange (length (now (bytes .entry))) stride index) ⌝ }
+{
+    let place = record_place(bytes.len(), stride, index);
+    match place {
+        Place::At { start, end } => &bytes[start..end],
+        Place::Nothing => &bytes[0..0],
+    }
+}
+
+// A range of records that lies behind record at, and inside the table.
+pub fn range_is_forward(bytes: &[u8], stride: usize, at: usize, first: u32, count: u32) -> bool
+    ensures { λ r. ⌜ r ≡ rangeIsForward (recordCount (length (now (bytes .entry))) stride) at first count ⌝ }
+{
+    if first as usize <= at {
+        return false;
+    }
+    first as usize + count as usize <= record_count(bytes, stride)
+}
+
+// Any offset and length that end inside a pool of len bytes.
+pub fn pool_place(len: usize, offset: u32, size: u32) -> Place
+    ensures { λ r. ⌜ asPlace r ≡ poolRange len offset size ⌝ }
+{
+    let start = offset as usize;
+    let end = start + size as usize;
+    if end <= len {
+        Place::At { start, end }
+    } else {
+        Place::Nothing
+    }
+}
+
+pub fn pool_bytes(bytes: &[u8], offset: u32, size: u32) -> &[u8]
+    ensures { λ r. ⌜ now r ≡ partIn (now (bytes .entry)) (poolRange (length (now (bytes .entry))) offset size) ⌝ }
+{
+    let place = pool_place(bytes.len(), offset, size);
+    match place {
+        Place::At { start, end } => &bytes[start..end],
+        Place::Nothing => &bytes[0..0],
+    }
+}

@@ -1,0 +1,86 @@
+-- `view::regions::ecc_for` meets its contract. Assumes nothing.
+use mathlib.Core.Path.{_≡_, sym, ap, ap₂, _∙_, subst}
+use mathlib.Core.List.{List}
+use Prim.Native.Nat.{ℕ, _+_, _-_, _*_, _≤_, _<_}
+use native.Mathlib.Omega.{arith}
+use borrow.Author.Needs.{needs}
+use denote.Ref.{now}
+use lib.ListN.{length}
+use mathlib.Core.Option.{none, some}
+use Rattle.paper.specs.Layout.{Entry, directoryOf, end}
+use Rattle.paper.specs.Views.{firstThat, planeFor}
+use Rattle.view.specs.declared.regions.RegionAt.the-variants.{Found}
+use Rattle.view.specs.Answers.{foundAs}
+use Rattle.paper.specs.Views.{range, eccFor}
+use Rattle.paper.specs.Layout.{headerLength}
+use Rattle.layout.specs.declared.Region.{Region}
+use Rattle.layout.specs.Regions.{regionOf}
+use Rattle.view.proofs.AnswersLaw.{found-some, found-none}
+use Rattle.view.proofs.SeenLaw.{ecc-short, ecc-none, ecc-past, ecc-there}
+use Rattle.view.proofs.regions.ecc_for.Statement.{statement}
+use Rattle.view.proofs.regions.ecc_for.Tie as tie
+
+-- the first plane that covers the kind is handed out as p
+module _ (n : ℕ) (x : List ℕ) (k : ℕ) (h : headerLength n ≤ length x) (p : Region) (f : Found p ≡ foundAs (firstThat (planeFor k) (directoryOf n x))) where
+  plane : (e : Entry) × (firstThat (planeFor k) (directoryOf n x) ≡ some e) × (p ≡ regionOf e)
+  plane = found-some (firstThat (planeFor k) (directoryOf n x)) p f
+
+  ends : 8 * p .«word_offset» + 8 * p .«word_length» ≡ end (plane .0)
+  ends =
+      let o : p .«word_offset» ≡ plane .0 .offset = ap (λ (r : Region). r .«word_offset») (plane .2) in
+      let w : p .«word_length» ≡ plane .0 .words = ap (λ (r : Region). r .«word_length») (plane .2) in
+      omega arith
+
+  past-end : length x < 8 * p .«word_offset» + 8 * p .«word_length» → none ≡ eccFor n x k
+  past-end l = sym (ecc-past n x k h (plane .0) (plane .1) (subst (λ (z : ℕ). length x < z) ends l))
+
+  there : 8 * p .«word_offset» + 8 * p .«word_length» ≤ length x
+      → some (range (8 * p .«word_offset») (8 * p .«word_offset» + 8 * p .«word_length»)) ≡ eccFor n x k
+  there l =
+      ap₂ (λ (a b : ℕ). some (range (8 * a) b)) (ap (λ (r : Region). r .«word_offset») (plane .2)) ends
+      ∙ sym (ecc-there n x k h (plane .0) (plane .1) (subst (λ (z : ℕ). z ≤ length x) ends l))
+
+returns : tie.Need-returns
+returns c = let g = c .before .before .before .args in sym (ecc-short (g .header .«region_count») (now (g .bytes)) (g .region .kind) (c .if1 .taken))
+
+returns-2 : tie.Need-returns-2
+returns-2 c =
+    let k = c .before .before .before .before in
+    let p = k .before .before in
+    let g = p .before .before .before .before .args in
+    past-end (g .header .«region_count») (now (g .bytes)) (g .region .kind) (p .before .if1 .left) (k .plane .given .0 .0) (sym (k .plane .given .1) ∙ p .plane-of .ensures) (c .if2 .taken)
+
+returns-3 : tie.Need-returns-3
+returns-3 c =
+    let k = c .before .before .before .before in
+    let p = k .before .before in
+    let g = p .before .before .before .before .args in
+    there (g .header .«region_count») (now (g .bytes)) (g .region .kind) (p .before .if1 .left) (k .plane .given .0 .0) (sym (k .plane .given .1) ∙ p .plane-of .ensures) (c .if2 .left)
+
+returns-4 : tie.Need-returns-4
+returns-4 c =
+    let p = c .before .before in
+    let g = p .before .before .before .before .args in
+    let n = g .header .«region_count» in
+    let x = now (g .bytes) in
+    sym (ecc-none n x (g .region .kind) (p .before .if1 .left) (found-none (firstThat (planeFor (g .region .kind)) (directoryOf n x)) (sym (c .enum-told .given .1) ∙ p .plane-of .ensures)))
+
+pub ecc-for-spec : {M : Type 1} → statement M
+ecc-for-spec =
+    tie.close
+    (tie.spec
+    (λ c. search needs)
+    (λ c. search needs)
+    (λ c. search needs)
+    returns
+    (λ c κs. search needs)
+    (λ c. search needs)
+    (λ c. search needs)
+    (λ c. search needs)
+    (λ c. search needs)
+    (λ c. search needs)
+    (λ c. search needs)
+    returns-2
+    (λ c. search needs)
+    returns-3
+    returns-4)

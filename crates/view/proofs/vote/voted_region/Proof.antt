@@ -1,0 +1,34 @@
+-- `view::vote::voted_region` meets its contract. Assumes nothing.
+use Prim.Native.Nat.{_-_}
+use borrow.Author.Needs.{needs}
+use denote.Ref.{now}
+use Rattle.view.proofs.SeenLaw.{region-read}
+use Rattle.view.proofs.vote.voted_region.Statement.{statement}
+use Rattle.view.proofs.vote.voted_region.Tie as tie
+
+returns : tie.Need-returns
+returns c =
+    let w = c .before in
+    let o = w .before in
+    let f = o .before in
+    let k = f .before in
+    let g = k .before .before .args in
+    region-read (g .n) (now (g .bytes)) (g .i) (k .voted-u16 .result) (f .voted-u162 .result) (o .voted-u32 .result) (w .voted-u322 .result) (c .voted-u163 .result)
+    (k .voted-u16 .ensures) (f .voted-u162 .ensures) (o .voted-u32 .ensures) (w .voted-u322 .ensures) (c .voted-u163 .ensures)
+
+pub voted-region-spec : {M : Type 1} → statement M
+voted-region-spec =
+    tie.close
+    (tie.spec
+    (λ c. search needs)
+    (λ c. search needs)
+    (λ c κs. search needs)
+    (λ c. search needs)
+    (λ c κs. search needs)
+    (λ c. search needs)
+    (λ c κs. search needs)
+    (λ c. search needs)
+    (λ c κs. search needs)
+    (λ c. search needs)
+    (λ c κs. search needs)
+    returns)
