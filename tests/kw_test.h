@@ -25,4 +25,17 @@ void kwt_header_bytes(size_t count, uint64_t answer[2]);
 void kwt_region(uint16_t kind, uint16_t flags, uint32_t word_offset, uint32_t word_length,
                 uint16_t covers, uint64_t answer[5]);
 
+uint16_t kwt_plane_kind_for(uint16_t kind);
+uint8_t kwt_check_byte(uint64_t data);
+/* {0, word} clean, {1, word} corrected, {2, 0} uncorrectable */
+void kwt_decode_word(uint64_t data, uint8_t check, uint64_t answer[2]);
+/* {1, the two numbers of a decoded word}, or {0, 0, 0} for nothing */
+void kwt_plane_word(const uint8_t *parity, size_t parity_len, const uint8_t *data, size_t data_len,
+                    size_t index, uint64_t answer[3]);
+/* {words, corrected, uncorrectable} */
+void kwt_plane_scan(const uint8_t *parity, size_t parity_len, const uint8_t *data, size_t data_len,
+                    uint64_t answer[3]);
+/* {is clean, needs scrub} */
+void kwt_report(size_t words, size_t corrected, size_t uncorrectable, uint64_t answer[2]);
+
 #endif

@@ -13,11 +13,15 @@
 #include <string.h>
 #include "kw_test.h"
 
-enum { MOST_NUMBERS = 8, MOST_BYTES = 8, LONGEST_BYTES = 1 << 24, SHOWN = 10 };
+enum { MOST_SLICES = 2, MOST_NUMBERS = 8, MOST_BYTES = 8, LONGEST_BYTES = 1 << 24, SHOWN = 10 };
 
-struct input {
+struct slice {
     uint8_t *bytes;
     size_t len;
+};
+
+struct input {
+    struct slice b[MOST_SLICES];
     uint64_t n[MOST_NUMBERS];
 };
 
@@ -27,22 +31,29 @@ struct output {
 };
 
 #define CALL(NAME) static void call_##NAME(const struct input *in, struct output *out)
-CALL(u8_at) { kwt_u8_at(in->bytes, in->len, in->n[0], out->n); }
-CALL(u16_at) { kwt_u16_at(in->bytes, in->len, in->n[0], out->n); }
-CALL(u32_at) { kwt_u32_at(in->bytes, in->len, in->n[0], out->n); }
-CALL(u64_at) { kwt_u64_at(in->bytes, in->len, in->n[0], out->n); }
+#define SLICE(I) in->b[I].bytes, in->b[I].len
+CALL(u8_at) { kwt_u8_at(SLICE(0), in->n[0], out->n); }
+CALL(u16_at) { kwt_u16_at(SLICE(0), in->n[0], out->n); }
+CALL(u32_at) { kwt_u32_at(SLICE(0), in->n[0], out->n); }
+CALL(u64_at) { kwt_u64_at(SLICE(0), in->n[0], out->n); }
 CALL(u8_bytes) { kwt_u8_bytes((uint8_t)in->n[0], out->bytes); }
 CALL(u16_bytes) { kwt_u16_bytes((uint16_t)in->n[0], out->bytes); }
 CALL(u32_bytes) { kwt_u32_bytes((uint32_t)in->n[0], out->bytes); }
 CALL(u64_bytes) { kwt_u64_bytes(in->n[0], out->bytes); }
 CALL(maj3) { out->n[0] = kwt_maj3((uint8_t)in->n[0], (uint8_t)in->n[1], (uint8_t)in->n[2]); }
-CALL(crc32) { out->n[0] = kwt_crc32(in->bytes, in->len); }
+CALL(crc32) { out->n[0] = kwt_crc32(SLICE(0)); }
 CALL(words_for) { kwt_words_for(in->n[0], out->n); }
 CALL(header_bytes) { kwt_header_bytes(in->n[0], out->n); }
 CALL(region) {
     kwt_region((uint16_t)in->n[0], (uint16_t)in->n[1], (uint32_t)in->n[2], (uint32_t)in->n[3],
                (uint16_t)in->n[4], out->n);
 }
+CALL(plane_kind_for) { out->n[0] = kwt_plane_kind_for((uint16_t)in->n[0]); }
+CALL(check_byte) { out->n[0] = kwt_check_byte(in->n[0]); }
+CALL(decode_word) { kwt_decode_word(in->n[0], (uint8_t)in->n[1], out->n); }
+CALL(plane_word) { kwt_plane_word(SLICE(0), SLICE(1), in->n[0], out->n); }
+CALL(plane_scan) { kwt_plane_scan(SLICE(0), SLICE(1), out->n); }
+CALL(report) { kwt_report(in->n[0], in->n[1], in->n[2], out->n); }
 
 struct row {
     const char *name;
@@ -66,6 +77,12 @@ static const struct row rows[] = {
     {"words_for", "8", 2, 0, call_words_for},
     {"header_bytes", "8", 2, 0, call_header_bytes},
     {"region", "22442", 5, 0, call_region},
+    {"plane_kind_for", "2", 1, 0, call_plane_kind_for},
+    {"check_byte", "8", 1, 0, call_check_byte},
+    {"decode_word", "81", 2, 0, call_decode_word},
+    {"plane_word", "bb8", 3, 0, call_plane_word},
+    {"plane_scan", "bb", 3, 0, call_plane_scan},
+    {"report", "888", 2, 0, call_report},
 };
 
 /* Reads a decimal number of at most `width` bytes; 0 if it isn't one. */
@@ -95,19 +112,19 @@ static int read_byte(const char *two, uint8_t *byte) {
 }
 
 /* Reads `-`, `XX*COUNT` or hex into fresh memory; 0 if it is none of them. */
-static int read_bytes(const char *word, struct input *in) {
+static int read_bytes(const char *word, struct slice *b) {
     uint64_t count = 1;
     size_t hex = strcspn(word, "*");
     int repeated = word[hex] == '*';
     if (repeated && (hex != 2 || !read_number(word + hex + 1, 8, &count))) return 0;
     if (strcmp(word, "-") == 0) hex = 0;
     if (hex % 2 != 0 || count > LONGEST_BYTES) return 0;
-    in->len = hex / 2 * (size_t)count;
+    b->len = hex / 2 * (size_t)count;
     /* exactly as long as the input, so that a checker of memory sees a read past its end */
-    in->bytes = malloc(in->len > 0 ? in->len : 1);
-    if (in->bytes == NULL) return 0;
-    for (size_t i = 0; i < in->len; i++)
-        if (!read_byte(word + (repeated ? 0 : 2 * i), &in->bytes[i])) return 0;
+    b->bytes = malloc(b->len > 0 ? b->len : 1);
+    if (b->bytes == NULL) return 0;
+    for (size_t i = 0; i < b->len; i++)
+        if (!read_byte(word + (repeated ? 0 : 2 * i), &b->bytes[i])) return 0;
     return 1;
 }
 
@@ -115,9 +132,10 @@ static int read_bytes(const char *word, struct input *in) {
 static int read_input(char *arguments, const char *takes, struct input *in) {
     char *rest = NULL;
     char *word = strtok_r(arguments, " ", &rest);
-    for (int n = 0; *takes != '\0'; takes++, word = strtok_r(NULL, " ", &rest)) {
+    for (int b = 0, n = 0; *takes != '\0'; takes++, word = strtok_r(NULL, " ", &rest)) {
         if (word == NULL) return 0;
-        if (*takes == 'b' ? !read_bytes(word, in) : !read_number(word, *takes - '0', &in->n[n++]))
+        if (*takes == 'b' ? !read_bytes(word, &in->b[b++])
+                          : !read_number(word, *takes - '0', &in->n[n++]))
             return 0;
     }
     return word == NULL;
@@ -156,7 +174,7 @@ static const char *run_line(char *line, char *ours, size_t room) {
         answer_text(row, &out, ours, room);
         recorded = arrow + 4;
     }
-    free(in.bytes);
+    for (int i = 0; i < MOST_SLICES; i++) free(in.b[i].bytes);
     return recorded;
 }
 

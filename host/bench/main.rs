@@ -10,6 +10,7 @@ mod ffi;
 mod inputs;
 
 use inputs::Random;
+use keleusma_wire::ecc::{check_byte, EccPlane};
 use std::hint::black_box;
 use std::process::ExitCode;
 use std::time::{Duration, Instant};
@@ -18,7 +19,7 @@ const ROUNDS: usize = 25;
 
 fn main() -> ExitCode {
     println!("{:<32} {:>12} {:>12} {:>8} {:>6}", "work", "ours", "the Rust's", "ratio", "bar");
-    let rows = [crc32_over_1_mib()];
+    let rows = [crc32_over_1_mib(), scan_900_000_words()];
     if rows.iter().all(|&within| within) {
         ExitCode::SUCCESS
     } else {
@@ -33,6 +34,23 @@ fn crc32_over_1_mib() -> bool {
         0.6,
         || ffi::crc32(black_box(&bytes)),
         || keleusma_wire::crc32(black_box(&bytes)),
+    )
+}
+
+/// Random words, of which each thousandth has a flipped bit.
+fn scan_900_000_words() -> bool {
+    let mut data = Random::new(5).bytes(8 * 900_000);
+    let words = data.chunks_exact(8).map(|word| u64::from_le_bytes(word.try_into().unwrap()));
+    let parity: Vec<u8> = words.map(check_byte).collect();
+    data.iter_mut().step_by(8 * 1000).for_each(|byte| *byte ^= 1);
+    row(
+        "scan, 900,000 words",
+        1.0,
+        || ffi::plane_scan(black_box(&parity), black_box(&data)),
+        || {
+            let report = EccPlane::new(black_box(&parity)).scan(black_box(&data));
+            [report.words, report.corrected, report.uncorrectable].map(|n| n as u64)
+        },
     )
 }
 

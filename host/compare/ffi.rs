@@ -25,6 +25,25 @@ mod c {
             covers: u16,
             answer: *mut u64,
         );
+        pub fn kwt_plane_kind_for(kind: u16) -> u16;
+        pub fn kwt_check_byte(data: u64) -> u8;
+        pub fn kwt_decode_word(data: u64, check: u8, answer: *mut u64);
+        pub fn kwt_plane_word(
+            parity: *const u8,
+            parity_len: usize,
+            data: *const u8,
+            data_len: usize,
+            index: usize,
+            answer: *mut u64,
+        );
+        pub fn kwt_plane_scan(
+            parity: *const u8,
+            parity_len: usize,
+            data: *const u8,
+            data_len: usize,
+            answer: *mut u64,
+        );
+        pub fn kwt_report(words: usize, corrected: usize, uncorrectable: usize, answer: *mut u64);
     }
 }
 
@@ -102,4 +121,36 @@ pub fn header_bytes(count: usize) -> [u64; 2] {
 /// {byte offset, byte length, is encrypted, is an ECC plane, has ECC}
 pub fn region(kind: u16, flags: u16, offset: u32, length: u32, covers: u16) -> [u64; 5] {
     numbers(|answer| unsafe { c::kwt_region(kind, flags, offset, length, covers, answer) })
+}
+
+pub fn plane_kind_for(kind: u16) -> u16 {
+    unsafe { c::kwt_plane_kind_for(kind) }
+}
+
+pub fn check_byte(data: u64) -> u8 {
+    unsafe { c::kwt_check_byte(data) }
+}
+
+/// {0 clean or 1 corrected, word}, or {2, 0} for uncorrectable
+pub fn decode_word(data: u64, check: u8) -> [u64; 2] {
+    numbers(|answer| unsafe { c::kwt_decode_word(data, check, answer) })
+}
+
+/// {1, the two numbers of a decoded word}, or {0, 0, 0} for nothing
+pub fn plane_word(parity: &[u8], data: &[u8], index: usize) -> [u64; 3] {
+    let (plane, bytes) = (parity.as_ptr(), data.as_ptr());
+    numbers(|answer| unsafe {
+        c::kwt_plane_word(plane, parity.len(), bytes, data.len(), index, answer)
+    })
+}
+
+/// {words, corrected, uncorrectable}
+pub fn plane_scan(parity: &[u8], data: &[u8]) -> [u64; 3] {
+    let (plane, bytes) = (parity.as_ptr(), data.as_ptr());
+    numbers(|answer| unsafe { c::kwt_plane_scan(plane, parity.len(), bytes, data.len(), answer) })
+}
+
+/// {is clean, needs scrub}
+pub fn report(words: usize, corrected: usize, uncorrectable: usize) -> [u64; 2] {
+    numbers(|answer| unsafe { c::kwt_report(words, corrected, uncorrectable, answer) })
 }

@@ -6,6 +6,7 @@
 //! with a function `compare`. Exit status 1 if an answer differs or nothing was compared.
 
 mod crc;
+mod ecc;
 mod ffi;
 mod inputs;
 mod layout;
@@ -33,6 +34,7 @@ fn main() -> ExitCode {
     scalar::compare(&mut run);
     crc::compare(&mut run);
     layout::compare(&mut run);
+    ecc::compare(&mut run);
     if run.tally.finish() {
         ExitCode::SUCCESS
     } else {

@@ -7,6 +7,7 @@
 //! bytes and `00*600` for one byte repeated. An answer that may be None is `1 VALUE` or `0 0`.
 
 mod crc;
+mod ecc;
 #[path = "../compare/inputs.rs"]
 #[allow(dead_code)] // the comparison uses the rest
 mod inputs;
@@ -20,6 +21,7 @@ fn main() {
     write(&folder, "scalar", scalar::lines());
     write(&folder, "crc", crc::lines());
     write(&folder, "layout", layout::lines());
+    write(&folder, "ecc", ecc::lines());
 }
 
 fn write(folder: &str, name: &str, lines: Vec<String>) {

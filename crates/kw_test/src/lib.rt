@@ -1,11 +1,18 @@
 // What host/compare calls to hold the leaves beside the Rust: each function here hands one of theirs on, with its
 // answer as numbers. A `&[u8]` is a pointer and a length to the caller, a `&mut [u64; 2]` one pointer.
 ghost use mathlib.Core.Path.{_≡_};
+ghost use mathlib.Core.Bool.{_&&_};
+ghost use lib.Dec.{eqb, ltb};
 ghost use Rattle.paper.specs.Bytes.{readIn, le};
 ghost use Rattle.paper.specs.Crc as checksum;
 ghost use Rattle.paper.specs.Layout.{wordsFor, headerBytes};
 ghost use Rattle.paper.specs.Layout as paper;
-ghost use Rattle.kw_test.specs.Numbers.{asNumbers, regionNumbers};
+ghost use Rattle.paper.specs.Parity.{planeKind, checkOf, outcome};
+ghost use Rattle.paper.specs.Scan.{sliceWord, sliceScan};
+ghost use Rattle.kw_test.specs.Numbers.{asNumbers, regionNumbers, outcomeNumbers, wordNumbers, reportNumbers, answersNumbers};
+use ecc::EccReport;
+use ecc::PlaneWord;
+use ecc::WordStatus;
 use layout::Region;
 use layout::Size;
 use scalar::U8At;
@@ -142,4 +149,72 @@ pub extern "C" fn kwt_region(
         r.is_ecc_plane() as u64,
         r.has_ecc() as u64,
     ];
+}
+
+#[no_mangle]
+pub extern "C" fn kwt_plane_kind_for(kind: u16) -> u16
+    ensures { λ r. ⌜ r ≡ planeKind kind ⌝ }
+{
+    ecc::plane_kind_for(kind)
+}
+
+#[no_mangle]
+pub extern "C" fn kwt_check_byte(data: u64) -> u8
+    ensures { λ r. ⌜ r ≡ checkOf «data» ⌝ }
+{
+    ecc::check_byte(data)
+}
+
+// {0, the word} clean, {1, the word} corrected, {2, 0} uncorrectable.
+#[no_mangle]
+pub extern "C" fn kwt_decode_word(data: u64, check: u8, answer: &mut [u64; 2])
+    ensures { λ _. ⌜ now (answer .exit) ≡ outcomeNumbers (outcome «data» check) ⌝ }
+{
+    match ecc::decode_word(data, check) {
+        WordStatus::Clean(w) => *answer = [0, w],
+        WordStatus::Corrected(w) => *answer = [1, w],
+        WordStatus::Uncorrectable => *answer = [2, 0],
+    }
+}
+
+// {1, the two numbers of a decoded word}, or {0, 0, 0} for nothing.
+#[no_mangle]
+pub extern "C" fn kwt_plane_word(parity: &[u8], data: &[u8], index: usize, answer: &mut [u64; 3])
+    ensures { λ _. ⌜ now (answer .exit) ≡ wordNumbers (sliceWord (now («data» .entry)) (now (parity .entry)) index) ⌝ }
+{
+    match ecc::plane_word(parity, data, index) {
+        PlaneWord::Word(s) => match s {
+            WordStatus::Clean(w) => *answer = [1, 0, w],
+            WordStatus::Corrected(w) => *answer = [1, 1, w],
+            WordStatus::Uncorrectable => *answer = [1, 2, 0],
+        },
+        PlaneWord::Nothing => *answer = [0, 0, 0],
+    }
+}
+
+// {words, corrected, uncorrectable}
+#[no_mangle]
+pub extern "C" fn kwt_plane_scan(parity: &[u8], data: &[u8], answer: &mut [u64; 3])
+    ensures { λ _. ⌜ now (answer .exit) ≡ reportNumbers (sliceScan (now («data» .entry)) (now (parity .entry))) ⌝ }
+{
+    let r = ecc::plane_scan(parity, data);
+    *answer = [r.words as u64, r.corrected as u64, r.uncorrectable as u64];
+}
+
+// {is clean, needs scrub} of a report, a yes as 1.
+#[no_mangle]
+pub extern "C" fn kwt_report(
+    words: usize,
+    corrected: usize,
+    uncorrectable: usize,
+    answer: &mut [u64; 2],
+)
+    ensures { λ _. ⌜ now (answer .exit) ≡ answersNumbers (eqb corrected 0 && eqb uncorrectable 0) (ltb 0 corrected) ⌝ }
+{
+    let r = EccReport {
+        words,
+        corrected,
+        uncorrectable,
+    };
+    *answer = [r.is_clean() as u64, r.needs_scrub() as u64];
 }
