@@ -1,3 +1,3 @@
 pub mod OutcomeLaw
 pub mod ScrubbingLaw
-pub mod ProtectedLaw
+pub mod RunLaw

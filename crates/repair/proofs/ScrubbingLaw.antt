@@ -4,7 +4,7 @@ use mathlib.Core.Bool.{Bool, true, false, _&&_, _||_, cond}
 use mathlib.Core.List.{List, [], _∷_, _++_}
 use mathlib.Core.Option.{Option, none, some}
 use Prim.Native.Nat.{ℕ, zero, suc, _+_, _-_, _*_, _^_, _≤_, _<_, min}
-use native.Mathlib.Nat.{add-zero, min-le-left}
+use native.Mathlib.Nat.{add-zero}
 use native.Mathlib.Numerals.{add-one}
 use native.Mathlib.Omega.{arith}
 use lib.ListN.{length, drop}
@@ -20,7 +20,8 @@ use Rattle.paper.specs.Scan.{Pair, pairsFrom, pairsWith, classAt, isCorrected, 
 use Rattle.paper.specs.Scrub.{State, storedWord, scrubWord, scrubWords, visited, scrubFirst, scrubRegion, scrubFrom, Scrubbed, reported, scrub}
 use Rattle.paper.proofs.ParseLaw.{accepted-long}
 use Rattle.repair.specs.declared.scrubbing.Counts.{Counts}
-use Rattle.repair.specs.Answers.{asState, scrubIn, scrubWith, Room, counted}
+use Rattle.repair.specs.Answers.{asState, scrubIn, Room, counted}
+use Rattle.repair.specs.Runs.{entryPairs, entryVisited}
 
 -- ---- one word
 
@@ -115,37 +116,25 @@ or-false : (t : Bool) → t || false ≡ t
 or-false true = refl
 or-false false = refl
 
-or-true : (t : Bool) → t || true ≡ true
-or-true true = refl
-or-true false = refl
-
--- what becomes of an entry, by whether it is protected and has a plane
-entry-plain : (len : ℕ) (all : List Entry) (e : Entry) (s : State) (t : Bool) → t ≡ false
-    → scrubWords (cond t (regionPairs len all e) []) (record { image = s .image; any = s .any || (t && found (planeOf len all e)); words = s .words; corrected = s .corrected; uncorrectable = s .uncorrectable }) ≡ s
-unfolding scrubWords
-entry-plain len all e s t f = rw (f, or-false (s .any))
-
-with-plane : (e : Entry) (o : Option Entry) (s : State)
-    → scrubWords (pairsWith e o) (record { image = s .image; any = s .any || found o; words = s .words; corrected = s .corrected; uncorrectable = s .uncorrectable }) ≡ scrubWith e o s
-unfolding scrubWords
-with-plane e none s = rw (or-false (s .any))
-with-plane e (some p) s = rw (or-true (s .any))
-
-module _ (n : ℕ) (i : ℕ) (s : State) where
-  pub region-gone : regionAt n (s .image) i ≡ none → scrubIn n i s ≡ s
-  unfolding scrubIn regionAt
-  region-gone e = rw (nth-gone (seen n (s .image)) i e)
-
-  module _ (e : Entry) (f : regionAt n (s .image) i ≡ some e) where
-    pub region-plain : isProtected e ≡ false → scrubIn n i s ≡ s
-    unfolding scrubIn regionAt visited
-    region-plain h =
-        rw (nth-there (seen n (s .image)) i e f) (entry-plain (length (s .image)) (seen n (s .image)) e s (isProtected e) h)
-
-    pub region-scrubbed : isProtected e ≡ true → scrubIn n i s ≡ scrubWith e (planeOf (length (s .image)) (seen n (s .image)) e) s
-    unfolding scrubIn regionAt visited regionPairs
-    region-scrubbed h =
-        rw (nth-there (seen n (s .image)) i e f, h) (with-plane e (planeOf (length (s .image)) (seen n (s .image)) e) s)
+-- the run of entry i, and whether it is visited
+pub region-run : (n i : ℕ) (s : State)
+    → scrubWords (entryPairs (length (s .image)) (seen n (s .image)) (regionAt n (s .image) i))
+    (record {
+      image = s .image;
+      any = s .any || entryVisited (length (s .image)) (seen n (s .image)) (regionAt n (s .image) i);
+      words = s .words;
+      corrected = s .corrected;
+      uncorrectable = s .uncorrectable;
+    }) ≡ scrubIn n i s
+unfolding scrubIn regionAt visited scrubWords
+region-run n i s = go (nth i (seen n (s .image))) refl
+  where
+    go : (o : Option Entry) → nth i (seen n (s .image)) ≡ o
+        → scrubWords (entryPairs (length (s .image)) (seen n (s .image)) (nth i (seen n (s .image))))
+        (record { image = s .image; any = s .any || entryVisited (length (s .image)) (seen n (s .image)) (nth i (seen n (s .image))); words = s .words; corrected = s .corrected; uncorrectable = s .uncorrectable })
+        ≡ scrubFirst (length (s .image)) (seen n (s .image)) (drop i (seen n (s .image))) s
+    go none e = rw (e, nth-gone (seen n (s .image)) i e, or-false (s .any))
+    go (some f) e = rw (e, nth-there (seen n (s .image)) i f e)
 
 -- it writes nothing where it corrects nothing
 first-same : (len : ℕ) (all es : List Entry) (s : State) → scrubFirst len all es s .corrected ≡ s .corrected → scrubFirst len all es s .image ≡ s .image
@@ -184,14 +173,7 @@ pub scrub-starts : (x : List ℕ) → parseVerdict x ≡ fine
 unfolding scrub
 scrub-starts x h = rw h
 
-pub room-least : (m : ℕ) (t : Counts) → Room m t → Room 0 t
-room-least m t r = record { words = omega (arith, r .words); corrected = r .corrected; uncorrectable = r .uncorrectable }
-
--- a region of w words, of which n are visited
-pub room-visit : (t : Counts) (w n m : ℕ) → Room (2 ^ 32) t → n ≡ min w m → w < 2 ^ 32
-    → Room n (record { any = true; words = t .words; corrected = t .corrected; uncorrectable = t .uncorrectable })
-room-visit t w n m r e h =
-    record { words = omega (arith, r .words, min-le-left w m); corrected = r .corrected; uncorrectable = r .uncorrectable }
-
-pub after-visit : (t : Counts) (w n m k : ℕ) → n ≡ min w m → w < 2 ^ 32 → k ≤ t .words + n → k ≤ t .words + 2 ^ 32
-after-visit t w n m k e h l = omega (arith, min-le-left w m)
+-- a region of fewer than 2^32 words
+pub room-visit : (t : Counts) (n : ℕ) (v : Bool) → Room (2 ^ 32) t → n < 2 ^ 32
+    → Room n (record { any = v; words = t .words; corrected = t .corrected; uncorrectable = t .uncorrectable })
+room-visit t n v r h = record { words = omega (arith, r .words); corrected = r .corrected; uncorrectable = r .uncorrectable }

@@ -8,8 +8,8 @@ use Rattle.paper.specs.Layout.{Entry}
 use Rattle.paper.specs.Views.{seen}
 use Rattle.paper.specs.Parity.{Outcome, cleanWord, correctedWord, uncorrectableWord}
 use Rattle.paper.specs.Bytes.{given}
-use Rattle.paper.specs.Scan.{Report, pairsWith}
-use Rattle.paper.specs.Scrub.{State, scrubWords, scrubFirst}
+use Rattle.paper.specs.Scan.{Report}
+use Rattle.paper.specs.Scrub.{State, scrubFirst}
 use Rattle.repair.specs.declared.scrubbing.Counts.{Counts}
 
 -- the counts, with the image as it stands
@@ -21,13 +21,6 @@ unfoldable pub scrubIn : ℕ → ℕ → State → State
 scrubIn n i s =
     let all = seen n (s .image) in
     scrubFirst (length (s .image)) all (drop i all) s
-
--- a protected entry with its plane, or without
-abbrev pub scrubWith : Entry → Option Entry → State → State
-scrubWith e none s = s
-scrubWith e (some p) s =
-    scrubWords (pairsWith e (some p))
-    (record { image = s .image; any = true; words = s .words; corrected = s .corrected; uncorrectable = s .uncorrectable })
 
 -- room for m words more
 pub record Room (m : ℕ) (c : Counts) : Type 0 where

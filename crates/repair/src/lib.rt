@@ -1,4 +1,5 @@
 // Repair of an image in place: scrub, after view.rs.
+mod runs;
 mod scrubbing;
 mod words;
 

@@ -1,29 +1,21 @@
 // Scrub, as the Rust has it: corrected words are written, counts are handed back. (FORMAT 8)
 ghost use mathlib.Core.Path.{_≡_};
-ghost use mathlib.Core.Bool.{true};
-ghost use Prim.Native.Nat.{ℕ, _+_, _*_, _^_, _<_, _≤_, min};
+ghost use mathlib.Core.Bool.{_||_};
+ghost use Prim.Native.Nat.{ℕ, _+_, _*_, _^_, _<_, _≤_};
 ghost use lib.ListN.{length};
-ghost use Rattle.paper.specs.Views.{seen};
-ghost use Rattle.paper.specs.Scan.{pairsFrom, planeOf};
-ghost use Rattle.layout.specs.Regions.{asEntry};
+ghost use Rattle.paper.specs.Scan.{pairsFrom};
 ghost use Rattle.scan.specs.Answers.{asScan};
 ghost use Rattle.paper.specs.Scrub as paper;
 ghost use Rattle.ecc.specs.Answers.{asOutcome};
-ghost use Rattle.repair.specs.Answers.{asState, scrubIn, scrubWith, Room, counted, reportedBy};
+ghost use Rattle.repair.specs.Answers.{asState, scrubIn, Room, counted, reportedBy};
+use super::runs::run_of;
 use super::words::scrub_word;
 use ecc::EccReport;
 use ecc::WordStatus;
-use layout::Region;
 use scan::Scan;
-use tables::PartSpan;
-use tables::Place;
-use tables::region_span;
 use view::Header;
 use view::ParseResult;
-use view::RegionAt;
-use view::ecc_for;
 use view::parse;
-use view::region_at;
 
 // What is counted so far, and whether any region was visited.
 pub(crate) struct Counts {
@@ -76,41 +68,12 @@ fn scrub_words(bytes: &mut [u8], word: usize, check: usize, n: usize, counts: Co
     total
 }
 
-// A region that is no plane and is flagged 2: its words that have a check byte, where it has a plane.
-fn scrub_protected(bytes: &mut [u8], header: Header, region: Region, counts: Counts) -> Counts
-    requires { ⌜ Room (2 ^ 32) counts ⌝ }
-    ensures grows { λ r. ⌜ (r .words ≤ counts .words + 2 ^ 32) × Room 0 r ⌝ }
-    ensures is { λ r. ⌜ asState r (now (bytes .exit)) ≡ scrubWith (asEntry region) (planeOf (length (now (bytes .entry))) (seen (header .«region_count») (now (bytes .entry))) (asEntry region)) (asState counts (now (bytes .entry))) ⌝ }
-{
-    let plane = ecc_for(bytes, header, region);
-    let span = region_span(bytes.len(), region);
-    let Place::At { start, end } = plane else {
-        return counts;
-    };
-    let PartSpan::Bytes { start: _, end: _ } = span else {
-        return counts;
-    };
-    let n = least(region.word_length as usize, end - start);
-    scrub_words(
-        bytes,
-        region.word_offset as usize,
-        start,
-        n,
-        visited(counts),
-    )
-}
-
-fn least(a: usize, b: usize) -> usize
-    ensures { λ r. ⌜ r ≡ min a b ⌝ }
-{
-    if a < b { a } else { b }
-}
-
-fn visited(counts: Counts) -> Counts
-    ensures { λ r. ⌜ r ≡ record { any = true; words = counts .words; corrected = counts .corrected; uncorrectable = counts .uncorrectable } ⌝ }
+// A region that is visited makes for a report.
+fn visit(counts: Counts, visited: bool) -> Counts
+    ensures { λ r. ⌜ r ≡ record { any = counts .any || visited; words = counts .words; corrected = counts .corrected; uncorrectable = counts .uncorrectable } ⌝ }
 {
     Counts {
-        any: true,
+        any: counts.any || visited,
         words: counts.words,
         corrected: counts.corrected,
         uncorrectable: counts.uncorrectable,
@@ -123,17 +86,9 @@ fn scrub_region(bytes: &mut [u8], header: Header, i: u16, counts: Counts) -> Cou
     ensures grows { λ r. ⌜ (r .words ≤ counts .words + 2 ^ 32) × Room 0 r ⌝ }
     ensures is { λ r. ⌜ asState r (now (bytes .exit)) ≡ scrubIn (header .«region_count») i (asState counts (now (bytes .entry))) ⌝ }
 {
-    let found = region_at(bytes, header, i);
-    let RegionAt::Found(region) = found else {
-        return counts;
-    };
-    if region.is_ecc_plane() {
-        return counts;
-    }
-    if !region.has_ecc() {
-        return counts;
-    }
-    scrub_protected(bytes, header, region, counts)
+    let run = run_of(bytes, header, i);
+    let total = visit(counts, run.visited);
+    scrub_words(bytes, run.word, run.check, run.words, total)
 }
 
 // Repairs the corrected words of every protected region and hands back counts: what is left has to be checked afresh.

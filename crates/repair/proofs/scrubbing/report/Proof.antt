@@ -1,5 +1,5 @@
 -- `repair::scrubbing::report` meets its contract. Assumes nothing.
-use Prim.Native.Nat.{_+_, _-_}
+use Prim.Native.Nat.{_-_}
 use borrow.Author.Tests.{not-true, not-false}
 use Rattle.repair.proofs.scrubbing.report.Statement.{statement}
 use Rattle.repair.proofs.scrubbing.report.Tie as tie

@@ -1,0 +1,77 @@
+// Which words of an entry are examined: no plane, flagged 2, with a plane, and a check byte for each word. (FORMAT 7)
+ghost use mathlib.Core.Path.{_≡_};
+ghost use mathlib.Core.Bool.{false};
+ghost use Prim.Native.Nat.{ℕ, min};
+ghost use Rattle.layout.specs.Regions.{asEntry};
+ghost use Rattle.repair.specs.Runs.{IsRun, IsRunOf};
+use layout::Region;
+use tables::PartSpan;
+use tables::Place;
+use tables::region_span;
+use view::Header;
+use view::RegionAt;
+use view::ecc_for;
+use view::region_at;
+
+// As many words from word on, with check bytes from check on. A region with a plane is visited, even without words.
+pub(crate) struct Run {
+    pub visited: bool,
+    pub word: usize,
+    pub check: usize,
+    pub words: usize,
+}
+
+fn no_run() -> Run
+    ensures { λ r. ⌜ r ≡ record { visited = false; word = 0; check = 0; words = 0 } ⌝ }
+{
+    Run {
+        visited: false,
+        word: 0,
+        check: 0,
+        words: 0,
+    }
+}
+
+fn least(a: usize, b: usize) -> usize
+    ensures { λ r. ⌜ r ≡ min a b ⌝ }
+{
+    if a < b { a } else { b }
+}
+
+// Of a region that is no plane and is flagged 2.
+fn protected_run(bytes: &[u8], header: Header, region: Region) -> Run
+    ensures { λ r. ⌜ IsRunOf (header .«region_count») (now (bytes .entry)) (asEntry region) r ⌝ }
+{
+    let plane = ecc_for(bytes, header, region);
+    let span = region_span(bytes.len(), region);
+    let Place::At { start, end } = plane else {
+        return no_run();
+    };
+    let PartSpan::Bytes { start: _, end: _ } = span else {
+        return no_run();
+    };
+    let words = least(region.word_length as usize, end - start);
+    Run {
+        visited: true,
+        word: region.word_offset as usize,
+        check: start,
+        words,
+    }
+}
+
+// Of entry i, if there is one.
+pub(crate) fn run_of(bytes: &[u8], header: Header, i: u16) -> Run
+    ensures { λ r. ⌜ IsRun (header .«region_count») (now (bytes .entry)) i r ⌝ }
+{
+    let found = region_at(bytes, header, i);
+    let RegionAt::Found(region) = found else {
+        return no_run();
+    };
+    if region.is_ecc_plane() {
+        return no_run();
+    }
+    if !region.has_ecc() {
+        return no_run();
+    }
+    protected_run(bytes, header, region)
+}
