@@ -28,7 +28,7 @@ module _ (base k : ℕ) where
   ballot : List ℕ → ℕ → ℕ
   ballot x j = maj3 (at x (base + j)) (at x (base + k + j)) (at x (base + 2 * k + j))
 
-  copyVote-length : (j : ℕ) (x : List ℕ) → length (copyVote base k j x) ≡ length x
+  pub copyVote-length : (j : ℕ) (x : List ℕ) → length (copyVote base k j x) ≡ length x
   unfolding copyVote
   copyVote-length j x = simp length-set
 
@@ -75,7 +75,7 @@ module _ (base k : ℕ) where
         ∙ getD-set-other x₁ (base + k + j) (base + j) v 0 (omega arith)
         ∙ getD-set-same x (base + j) v 0 (omega arith)
 
-    at-other : (p : ℕ) → (p ≡ base + j → ⊥) → (p ≡ base + k + j → ⊥) → (p ≡ base + 2 * k + j → ⊥) → at (copyVote base k j x) p ≡ at x p
+    pub at-other : (p : ℕ) → (p ≡ base + j → ⊥) → (p ≡ base + k + j → ⊥) → (p ≡ base + 2 * k + j → ⊥) → at (copyVote base k j x) p ≡ at x p
     unfolding x₂ x₁
     at-other p a b c =
         ap (λ (z : List ℕ). at z p) opened ∙ getD-set-other x₂ (base + 2 * k + j) p v 0 c ∙ getD-set-other x₁ (base + k + j) p v 0 b

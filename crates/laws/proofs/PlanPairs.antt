@@ -92,7 +92,7 @@ finds a b rs o = finds-rows a rs (planeEntries b rs) o (finds-planes rs b o)
 -- ---- the examined words of the directory
 
 module _ (len : ℕ) (all : List Entry) where
-  over-append : (es fs : List Entry) → pairsOver len all (es ++ fs) ≡ pairsOver len all es ++ pairsOver len all fs
+  pub over-append : (es fs : List Entry) → pairsOver len all (es ++ fs) ≡ pairsOver len all es ++ pairsOver len all fs
   unfolding pairsOver
   over-append [] fs = refl
   over-append (e ∷ es) fs = simp (over-append es fs, append-assoc)

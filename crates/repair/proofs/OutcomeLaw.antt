@@ -4,12 +4,15 @@ use mathlib.Core.List.{List, [], _∷_, _++_, append-assoc}
 use Prim.Native.Nat.{ℕ, _+_, _-_, _*_, _≤_}
 use native.Mathlib.Omega.{arith}
 use borrow.Rule.Slice.PartMut.{putMid, post-is}
-use lib.ListN.{length, take, drop}
+use lib.ListN.{length, take, drop, set}
 use lib.Seq.{sets, sets-eq}
-use Rattle.paper.specs.Bytes.{at, wordAt, le}
-use Rattle.paper.specs.Parity.{Class, clean, flipped, beyond, flipWord, decode, Outcome, cleanWord, correctedWord, uncorrectableWord, outcomeAs, outcome}
+use Rattle.paper.specs.Bytes.{at, wordAt, le, readIn}
+use Rattle.paper.specs.Parity.{Class, clean, flipped, beyond, flipWord, checkOf, decode, Outcome, cleanWord, correctedWord, uncorrectableWord, outcomeAs, outcome}
 use Rattle.paper.specs.Scan.{Pair, classAt}
 use Rattle.paper.specs.Scrub.{storedWord}
+use Rattle.scalar.specs.Answers.{orZero}
+use Rattle.scalar.proofs.OrZero.{or-zero-in}
+use Rattle.paper.specs.Mend.{storedPair, fixAt}
 
 -- a part that comes back with other bytes, as many as it had
 pub put-part : (x ys : List ℕ) (a b : ℕ) → a ≤ b → b ≤ length x → length ys ≡ b - a → putMid a (b - a) x ys ≡ sets x a ys
@@ -17,6 +20,11 @@ put-part x ys a b h l e =
     let n : a + length ys ≡ b = omega arith in
     ap (λ (z : List ℕ). take a x ++ (ys ++ z)) (post-is a b x h ∙ ap (λ (k : ℕ). drop k x) (sym n))
     ∙ sym (sets-eq ys x a (omega arith) ∙ append-assoc (take a x) ys (drop (a + length ys) x))
+
+-- the word that code reads is the image's
+pub told-word : (x : List ℕ) (word check w : ℕ) {o : Outcome} → 8 * word + 8 ≤ length x → w ≡ orZero (readIn 8 x (8 * word)) → o ≡ outcome w (at x check)
+    → o ≡ outcome (wordAt x word) (at x check)
+told-word x word check w h e f = f ∙ ap (λ (n : ℕ). outcome n (at x check)) (e ∙ or-zero-in 8 x (8 * word) h)
 
 told-clean : (k : Class) (w v : ℕ) → cleanWord v ≡ outcomeAs k w → k ≡ clean
 told-clean clean w v e = refl
@@ -61,3 +69,20 @@ module _ (x : List ℕ) (p : Pair) where
   put-back v e =
       let f = class-flipped v e in
       ap (λ (n : ℕ). sets x (8 * p .word) (le 8 n)) (f .2) ∙ ap (λ (k : Class). storedWord k p x) (sym (f .1))
+
+  -- what mend leaves
+  pub fix-clean : (v : ℕ) → cleanWord v ≡ outcome (wordAt x (p .word)) (at x (p .check)) → x ≡ fixAt p x
+  unfolding fixAt
+  fix-clean v e = ap (λ (k : Class). storedPair k p x) (sym (class-clean v e))
+
+  pub fix-lost : uncorrectableWord ≡ outcome (wordAt x (p .word)) (at x (p .check)) → x ≡ fixAt p x
+  unfolding fixAt
+  fix-lost e = ap (λ (k : Class). storedPair k p x) (sym (class-beyond e))
+
+  pub fix-put : (v c : ℕ) → correctedWord v ≡ outcome (wordAt x (p .word)) (at x (p .check)) → c ≡ checkOf v
+      → sets (set x (p .check) c) (8 * p .word) (le 8 v) ≡ fixAt p x
+  unfolding fixAt
+  fix-put v c e g =
+      let f = class-flipped v e in
+      ap (λ (n : ℕ). sets (set x (p .check) n) (8 * p .word) (le 8 v)) g
+      ∙ ap (λ (n : ℕ). sets (set x (p .check) (checkOf n)) (8 * p .word) (le 8 n)) (f .2) ∙ ap (λ (k : Class). storedPair k p x) (sym (f .1))

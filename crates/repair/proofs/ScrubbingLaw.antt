@@ -9,7 +9,7 @@ use native.Mathlib.Numerals.{add-one}
 use native.Mathlib.Omega.{arith}
 use lib.ListN.{length, drop}
 use borrow.Author.Tests.{le-ltb}
-use lib.Seq.{sets, length-sets, drop-nil}
+use lib.Seq.{sets, length-sets}
 use Rattle.paper.specs.Bytes.{at, wordAt, le}
 use Rattle.paper.specs.Parity.{Class, clean, flipped, beyond, flipWord, decode, Outcome, cleanWord, correctedWord, uncorrectableWord, outcomeAs, outcome}
 use Rattle.paper.specs.Refusals.{fine, refuse}
@@ -21,6 +21,7 @@ use Rattle.paper.specs.Scrub.{State, storedWord, scrubWord, scrubWords, visited
 use Rattle.paper.proofs.ParseLaw.{accepted-long}
 use Rattle.repair.specs.declared.scrubbing.Counts.{Counts}
 use Rattle.repair.specs.Answers.{asState, scrubIn, Room, counted}
+use Rattle.repair.proofs.NthLaw.{nth-gone, nth-there}
 use Rattle.repair.specs.Runs.{entryPairs, entryVisited}
 
 -- ---- one word
@@ -99,18 +100,6 @@ words-same (p ∷ ps) s e =
     words-same ps (scrubWord p s) h ∙ kept-class (classAt (s .image) p) p (s .image) z
 
 -- ---- region i
-
-nth-gone : (es : List Entry) (i : ℕ) → nth i es ≡ none → drop i es ≡ []
-unfolding nth
-nth-gone [] i e = drop-nil i
-nth-gone (f ∷ es) zero e = cc
-nth-gone (f ∷ es) (suc i) e = nth-gone es i e
-
-nth-there : (es : List Entry) (i : ℕ) (f : Entry) → nth i es ≡ some f → drop i es ≡ f ∷ drop (suc i) es
-unfolding nth
-nth-there [] i f e = cc
-nth-there (g ∷ es) zero f e = cc
-nth-there (g ∷ es) (suc i) f e = nth-there es i f e
 
 or-false : (t : Bool) → t || false ≡ t
 or-false true = refl

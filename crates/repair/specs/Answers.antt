@@ -1,4 +1,4 @@
--- The paper's reading of what code carries along. (FORMAT 8)
+-- The paper's reading of what code carries along and answers. (FORMAT 8, 10)
 use mathlib.Core.Bool.{Bool, true}
 use mathlib.Core.Option.{Option, none, some}
 use mathlib.Core.List.{List}
@@ -10,7 +10,13 @@ use Rattle.paper.specs.Parity.{Outcome, cleanWord, correctedWord, uncorrectable
 use Rattle.paper.specs.Bytes.{given}
 use Rattle.paper.specs.Scan.{Report}
 use Rattle.paper.specs.Scrub.{State, scrubFirst}
+use Rattle.paper.specs.Mend as paper
+use Rattle.error.specs.Refused.{numberOf, detailOf}
+use Rattle.scan.specs.Answers.{asScan}
 use Rattle.repair.specs.declared.scrubbing.Counts.{Counts}
+use Rattle.repair.specs.declared.mending.Mending.{Mending}
+use Rattle.repair.specs.declared.mending.MendResult.{MendResult}
+use Rattle.repair.specs.declared.mending.MendResult.the-variants.{Mended, Refused}
 
 -- the counts, with the image as it stands
 abbrev pub asState : Counts → List ℕ → State
@@ -36,3 +42,21 @@ counted c uncorrectableWord = record { any = c .any; words = c .words + 1; corre
 
 abbrev pub reportedBy : Counts → Option Report
 reportedBy c = given (c .any) (record { words = c .words; corrected = c .corrected; uncorrectable = c .uncorrectable })
+
+-- ---- mend: its answer, with the image y that it leaves
+
+abbrev pub asMending : Mending → List ℕ → paper.Mending
+asMending m y = paper.mended y (asScan (m .report)) (m .stored) (m .whole)
+
+abbrev pub asMended : MendResult → List ℕ → paper.Mending
+asMended (Mended m) y = asMending m y
+asMended (Refused r) y = paper.refusedMend (numberOf r) (detailOf r)
+
+-- what it leaves of x: a refusal leaves every byte
+abbrev pub leftBy : paper.Mending → List ℕ → List ℕ
+leftBy (paper.mended y r n w) x = y
+leftBy (paper.refusedMend n d) x = x
+
+abbrev pub correctedIn : Option Report → ℕ
+correctedIn none = 0
+correctedIn (some r) = r .corrected

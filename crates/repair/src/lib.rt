@@ -1,6 +1,11 @@
-// Repair of an image in place: scrub, after view.rs.
+// Repair of an image in place: scrub, after view.rs, and mend.
+mod apart;
+mod mending;
 mod runs;
 mod scrubbing;
 mod words;
 
+pub use mending::MendResult;
+pub use mending::Mending;
+pub use mending::mend;
 pub use scrubbing::scrub;

@@ -1,4 +1,4 @@
-// One word of an image, repaired in its eight bytes. (FORMAT 8)
+// One word of an image, repaired in its eight bytes. (FORMAT 8, 10)
 ghost use mathlib.Core.Path.{_≡_};
 ghost use Prim.Native.Nat.{ℕ, _+_, _*_, _<_, _≤_};
 ghost use lib.ListN.{length};
@@ -6,8 +6,10 @@ ghost use Rattle.paper.specs.Bytes.{at, wordAt, le};
 ghost use Rattle.paper.specs.Parity.{outcome};
 ghost use Rattle.paper.specs.Scan.{classAt};
 ghost use Rattle.paper.specs.Scrub.{storedWord};
+ghost use Rattle.paper.specs.Mend.{fixAt};
 ghost use Rattle.ecc.specs.Answers.{asOutcome};
 use ecc::WordStatus;
+use ecc::check_byte;
 use ecc::decode_word;
 use scalar::u64_bytes;
 use scalar::u64_or_zero;
@@ -42,4 +44,22 @@ pub(crate) fn scrub_word(bytes: &mut [u8], word: usize, check: usize) -> WordSta
         WordStatus::Uncorrectable => {}
     }
     status
+}
+
+// A word with its check byte, as they stand. A corrected word is written with the check byte that it has to have.
+pub(crate) fn fix_word(bytes: &mut [u8], word: usize, check: usize)
+    requires { ⌜ (8 * word + 8 ≤ length (now bytes)) × (check < length (now bytes)) ⌝ }
+    ensures { λ r. ⌜ now (bytes .exit) ≡ fixAt (record { word = word; check = check }) (now (bytes .entry)) ⌝ }
+{
+    let start = 8 * word;
+    let end = start + 8;
+    let status = decode_word(u64_or_zero(bytes, start), bytes[check]);
+    match status {
+        WordStatus::Clean(_) => {}
+        WordStatus::Corrected(fixed) => {
+            bytes[check] = check_byte(fixed);
+            store_word(&mut bytes[start..end], fixed);
+        }
+        WordStatus::Uncorrectable => {}
+    }
 }

@@ -130,7 +130,7 @@ addAll-next x all (e ∷ es) (suc i) t =
     let k : suc (i + 1) ≡ suc i + 1 = omega arith in
     addAll-next x all es i t ∙ ap (λ (k : ℕ). addAll x all (drop k (e ∷ es)) (addAt x all (nth i es) t)) k
 
-length-seen : (n : ℕ) (x : List ℕ) → length (seen n x) ≤ n
+pub length-seen : (n : ℕ) (x : List ℕ) → length (seen n x) ≤ n
 unfolding seen
 length-seen n x = go (ltb (length x) (headerLength n))
   where

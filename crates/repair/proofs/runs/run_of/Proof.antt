@@ -1,5 +1,5 @@
 -- `repair::runs::run_of` meets its contract. Assumes nothing.
-use Prim.Native.Nat.{_+_, _-_}
+use Prim.Native.Nat.{_-_}
 use borrow.Author.Needs.{needs}
 use denote.Ref.{now}
 use borrow.Author.Tests.{not-true, not-false}

@@ -1,5 +1,5 @@
 -- `repair::scrubbing::visit` meets its contract. Assumes nothing.
-use Prim.Native.Nat.{_+_, _-_}
+use Prim.Native.Nat.{_-_}
 use Rattle.repair.proofs.scrubbing.visit.Statement.{statement}
 use Rattle.repair.proofs.scrubbing.visit.Tie as tie
 

@@ -1,0 +1,220 @@
+-- The word half, region by region, and mend's answer. Assumes nothing.
+use mathlib.Core.Path.{_≡_, refl, sym, ap, ap₂, _∙_, subst}
+use mathlib.Core.Bool.{Bool, true, false, _&&_, _||_, cond}
+use mathlib.Core.List.{List, [], _∷_, _++_, append-nil, append-assoc}
+use mathlib.Core.Option.{Option, none, some}
+use Prim.Native.Nat.{ℕ, zero, suc, _+_, _-_, _*_, _≤_, _<_}
+use native.Mathlib.Omega.{arith}
+use borrow.Author.Tests.{le-ltb}
+use lib.ListN.{length, take, drop, take-append-drop}
+use lib.Seq.{take-all}
+use Rattle.paper.specs.Bytes.{at, wordAt, Bytes}
+use Rattle.paper.specs.Refusals.{Verdict, fine, refuse, _then_}
+use Rattle.paper.specs.Layout.{Entry, count, headerLength, header, directory, directoryOf}
+use Rattle.paper.specs.Parse.{parseVerdict}
+use Rattle.paper.specs.Parity.{Class, clean, flipped, beyond}
+use Rattle.paper.specs.Views.{nth, seen, regionAt}
+use Rattle.paper.specs.Scan.{Pair, Among, pairsFrom, pairsOver, pairsWith, regionPairs, isProtected, planeOf, found, visitsAny, examined, isCorrected, total, classAt, classesAt, reportOf, report, scan, scanIn}
+use Rattle.paper.specs.Mend as paper
+use Rattle.paper.specs.Mend.{apartVerdict, mendVerdict, storedPair, fixAt, fixAll, mendBytes, changed, mend, mendAs}
+use Rattle.paper.proofs.ParseLaw.{accepted-long}
+use Rattle.paper.proofs.LayoutLaw.{length-directoryOf}
+use Rattle.laws.specs.Steps.{mendHeader, mendWords}
+use Rattle.laws.proofs.HeaderLaw.{SameHeader, header-kept, same-directory}
+use Rattle.laws.proofs.HeaderHalf.{header-keeps, header-verdict, header-then-words, header-examined, header-word, header-check}
+use Rattle.laws.proofs.PairLaw.{among-left, classes-ext}
+use Rattle.laws.proofs.PlanPairs.{over-append}
+use Rattle.laws.proofs.Fold.{AllApart, nil, cons, all-length, all-other, fixAll-append}
+use Rattle.laws.proofs.Apart.{accepted, apart, past}
+use Rattle.laws.proofs.StoredLaw.{stored-count}
+use Rattle.laws.proofs.VerdictLaw.{or-left, or-right}
+use Rattle.repair.proofs.SettleLaw.{header-part}
+use Rattle.repair.specs.Answers.{leftBy, correctedIn}
+use Rattle.repair.specs.Runs.{entryPairs}
+
+-- ---- a run of words
+
+pub fix-next : (n word check k : ℕ) (x : List ℕ) → k < n
+    → fixAll (pairsFrom (n - k) (word + k) (check + k)) x
+    ≡ fixAll (pairsFrom (n - (k + 1)) (word + (k + 1)) (check + (k + 1))) (fixAt (record { word = word + k; check = check + k }) x)
+unfolding fixAll pairsFrom
+fix-next n word check k x h =
+    let e : n - k ≡ suc (n - (k + 1)) = omega arith in
+    let a : suc (word + k) ≡ word + (k + 1) = omega arith in
+    let b : suc (check + k) ≡ check + (k + 1) = omega arith in
+    rw (e, a, b)
+
+pub fix-done : (n word check k : ℕ) (x : List ℕ) → n ≤ k → fixAll (pairsFrom (n - k) (word + k) (check + k)) x ≡ x
+unfolding fixAll pairsFrom
+fix-done n word check k x h = let e : n - k ≡ 0 = omega arith in rw e
+
+-- ---- the entries before i are done
+
+apart-left : {len : ℕ} (xs ys : List Pair) → AllApart len (xs ++ ys) → AllApart len xs
+apart-left [] ys a = nil
+apart-left (p ∷ xs) ys (cons s f r) = cons s (λ q c m. f q c (among-left xs ys m)) (apart-left xs ys r)
+
+over-next : (len : ℕ) (all es : List Entry) (i : ℕ) → pairsOver len all (take (suc i) es) ≡ pairsOver len all (take i es) ++ entryPairs len all (nth i es)
+unfolding pairsOver nth
+over-next len all [] zero = refl
+over-next len all [] (suc i) = refl
+over-next len all (e ∷ es) zero = append-nil (cond (isProtected e) (regionPairs len all e) [])
+over-next len all (e ∷ es) (suc i) =
+    ap (λ (ps : List Pair). cond (isProtected e) (regionPairs len all e) [] ++ ps) (over-next len all es i)
+    ∙ sym (append-assoc (cond (isProtected e) (regionPairs len all e) []) (pairsOver len all (take i es)) (entryPairs len all (nth i es)))
+
+abbrev firstPairs : List ℕ → ℕ → List Pair
+firstPairs x i = pairsOver (length x) (directory x) (take i (directory x))
+
+unfoldable pub fixedTo : List ℕ → ℕ → List ℕ
+fixedTo x i = fixAll (firstPairs x i) x
+
+pub none-fixed : (x : List ℕ) → fixedTo x 0 ≡ x
+unfolding fixedTo fixAll pairsOver
+none-fixed x = refl
+
+module _ (x : List ℕ) (v : mendVerdict x ≡ fine) (b : Bytes x) where
+  restPairs : ℕ → List Pair
+  restPairs i = pairsOver (length x) (directory x) (drop i (directory x))
+
+  split : (i : ℕ) → examined x ≡ firstPairs x i ++ restPairs i
+  unfolding examined restPairs
+  split i =
+      ap (pairsOver (length x) (directory x)) (sym (take-append-drop i (directory x)))
+      ∙ over-append (length x) (directory x) (take i (directory x)) (drop i (directory x))
+
+  first-apart : (i : ℕ) → AllApart (length x) (firstPairs x i)
+  first-apart i = apart-left (firstPairs x i) (restPairs i) (subst (AllApart (length x)) (split i) (apart x v))
+
+  first-past : (i q c : ℕ) → Among q c (firstPairs x i) → (headerLength (count x) ≤ 8 * q) × (headerLength (count x) ≤ c)
+  first-past i q c m = past x v q c (subst (Among q c) (sym (split i)) (among-left (firstPairs x i) (restPairs i) m))
+
+  pub fixed-length : (i : ℕ) → length (fixedTo x i) ≡ length x
+  unfolding fixedTo
+  fixed-length i = all-length (length x) x b refl (first-apart i)
+
+  same : (i : ℕ) → SameHeader (fixedTo x i) x
+  unfolding fixedTo
+  same i = header-kept x (fixedTo x i) (λ p h. all-other (length x) x b refl (first-apart i) p
+      (λ q c m e. let g = first-past i q c m .0 in omega arith) (λ q c m e. let g = first-past i q c m .1 in omega arith))
+
+  fixed-directory : (i : ℕ) → directoryOf (count x) (fixedTo x i) ≡ directory x
+  unfolding directory
+  fixed-directory i = ap (λ (n : ℕ). directoryOf n (fixedTo x i)) (sym (same i .count≡)) ∙ same-directory (fixedTo x i) x (same i)
+
+  fixed-seen : (i : ℕ) → seen (count x) (fixedTo x i) ≡ directory x
+  unfolding seen
+  fixed-seen i =
+      ap (λ (t : Bool). cond t [] (directoryOf (count x) (fixedTo x i))) (le-ltb (length (fixedTo x i)) (headerLength (count x)) (omega (arith, fixed-length i, accepted x v .long)))
+      ∙ fixed-directory i
+
+  -- entry i of the image as it stands is entry i of x
+  pub fixed-next : (i : ℕ) (y : List ℕ) (ps : List Pair) → y ≡ fixedTo x i → ps ≡ entryPairs (length y) (seen (count x) y) (regionAt (count x) y i)
+      → fixAll ps y ≡ fixedTo x (suc i)
+  unfolding regionAt fixedTo
+  fixed-next i y ps e f =
+      ap₂ fixAll (f ∙ ap (λ (z : List ℕ). entryPairs (length z) (seen (count x) z) (nth i (seen (count x) z))) e
+      ∙ ap₂ (λ (n : ℕ) (es : List Entry). entryPairs n es (nth i es)) (fixed-length i) (fixed-seen i)) e
+      ∙ sym (fixAll-append (firstPairs x i) (entryPairs (length x) (directory x) (nth i (directory x))) x)
+      ∙ ap (λ (qs : List Pair). fixAll qs x) (sym (over-next (length x) (directory x) (directory x) i))
+
+length-directory : (x : List ℕ) → length (directory x) ≤ count x
+unfolding directory
+length-directory x = omega (arith, length-directoryOf (count x) x)
+
+pub all-fixed : (x : List ℕ) (i : ℕ) → count x ≤ i → fixedTo x i ≡ mendWords x
+unfolding fixedTo mendWords examined
+all-fixed x i h = ap (λ (es : List Entry). fixAll (pairsOver (length x) (directory x) es) x) (take-all i (directory x) (omega (arith, length-directory x)))
+
+-- ---- where no word is corrected
+
+kept : (k : Class) (p : Pair) (x : List ℕ) → isCorrected k ≡ 0 → storedPair k p x ≡ x
+kept clean p x e = refl
+kept (flipped i) p x e = absurd (omega arith)
+kept beyond p x e = refl
+
+nothing-fixed : (ps : List Pair) (x : List ℕ) → total isCorrected (classesAt x ps) ≡ 0 → fixAll ps x ≡ x
+unfolding classesAt total fixAll fixAt
+nothing-fixed [] x e = refl
+nothing-fixed (p ∷ ps) x e =
+    let a : isCorrected (classAt x p) ≡ 0 = omega arith in
+    let c : total isCorrected (classesAt x ps) ≡ 0 = omega arith in
+    ap (fixAll ps) (kept (classAt x p) p x a) ∙ nothing-fixed ps x c
+
+no-visit : (len : ℕ) (all : List Entry) (t : Bool) (e : Entry) → (t && found (planeOf len all e)) ≡ false → cond t (regionPairs len all e) [] ≡ []
+unfolding regionPairs
+no-visit len all false e h = refl
+no-visit len all true e h = go (planeOf len all e) h
+  where
+    go : (o : Option Entry) → found o ≡ false → pairsWith e o ≡ []
+    go none f = refl
+    go (some p) f = let z : _≡_ {A = Bool} true false = f in cc
+
+no-visits : (len : ℕ) (all es : List Entry) → visitsAny len all es ≡ false → pairsOver len all es ≡ []
+unfolding visitsAny pairsOver
+no-visits len all [] h = refl
+no-visits len all (e ∷ es) h =
+    let t = isProtected e && found (planeOf len all e) in
+    ap₂ (λ (ps qs : List Pair). ps ++ qs) (no-visit len all (isProtected e) e (or-left t (visitsAny len all es) h))
+    (no-visits len all es (or-right t (visitsAny len all es) h))
+
+-- a scan's corrected words are all of them
+corrected-all : (x : List ℕ) → correctedIn (scan x) ≡ total isCorrected (classesAt x (examined x))
+unfolding scan examined reportOf report classesAt total
+corrected-all x = go (visitsAny (length x) (directory x) (directory x)) refl
+  where
+    go : (t : Bool) → visitsAny (length x) (directory x) (directory x) ≡ t → correctedIn (scan x) ≡ total isCorrected (classesAt x (examined x))
+    go true e = rw e
+    go false e = rw (e, no-visits (length x) (directory x) (directory x) e)
+
+-- ---- of an image that mend accepts
+
+pub scan-is : (x : List ℕ) → parseVerdict x ≡ fine → scanIn (count x) x ≡ scan x
+unfolding scanIn scan seen directory
+scan-is x h = rw (le-ltb (length x) (headerLength (count x)) (accepted-long x h))
+
+pub seen-is : (x : List ℕ) → parseVerdict x ≡ fine → seen (count x) x ≡ directory x
+unfolding seen directory
+seen-is x h = rw (le-ltb (length x) (headerLength (count x)) (accepted-long x h))
+
+module _ (x : List ℕ) (v : mendVerdict x ≡ fine) (b : Bytes x) where
+  pub mended-all : mendWords (mendHeader x) ≡ mendBytes x
+  mended-all = header-then-words x v b
+
+  -- the header half leaves an image that mend accepts
+  pub after-header : (n : ℕ) (y : List ℕ) → n ≡ count x → y ≡ mendHeader x → (n ≡ count y) × (mendVerdict y ≡ fine)
+  after-header n y e f =
+      (e ∙ sym (header-keeps x v b .count≡) ∙ ap count (sym f), ap mendVerdict f ∙ header-verdict x v b)
+
+  -- the words need not be passed
+  pub mended-none : correctedIn (scan x) ≡ 0 → mendHeader x ≡ mendBytes x
+  unfolding mendWords
+  mended-none e =
+      sym (ap (λ (ps : List Pair). fixAll ps (mendHeader x)) (header-examined x v b)
+      ∙ nothing-fixed (examined x) (mendHeader x)
+      (ap (total isCorrected) (classes-ext x (mendHeader x) (examined x) (λ q c m. (header-word x v b q c m, header-check x v b q c m)))
+      ∙ sym (corrected-all x) ∙ e))
+      ∙ mended-all
+
+  pub all-stored : (h w : ℕ) → h ≡ changed x (mendHeader x) → w ≡ correctedIn (scan x) → h + w ≡ changed x (mendBytes x)
+  all-stored h w e f =
+      ap₂ (λ (m n : ℕ). m + n) (e ∙ header-part x (accepted x v .long)) (f ∙ corrected-all x) ∙ sym (stored-count x v b)
+
+-- ---- the verdict
+
+pub mend-refused : (x : List ℕ) (n d : ℕ) → parseVerdict x ≡ refuse n d → mend x ≡ paper.refusedMend n d
+unfolding mend mendVerdict
+mend-refused x n d e = rw e
+
+module _ (x : List ℕ) (p : parseVerdict x ≡ fine) where
+  pub apart-refused : (n d : ℕ) → apartVerdict (count x) 0 [] (directory x) ≡ refuse n d → mend x ≡ paper.refusedMend n d
+  unfolding mend mendVerdict
+  apart-refused n d e = rw (p, e)
+
+  pub apart-fine : apartVerdict (count x) 0 [] (directory x) ≡ fine → mendVerdict x ≡ fine
+  unfolding mendVerdict
+  apart-fine e = rw (p, e)
+
+pub mend-fine : (x : List ℕ) → mendVerdict x ≡ fine → mend x ≡ paper.mended (mendBytes x) (scan x) (changed x (mendBytes x)) (paper.wholeOf (scan x))
+unfolding mend
+mend-fine x v = rw v

@@ -1,0 +1,52 @@
+-- `repair::mending::mend_parsed` meets its contract. Assumes nothing.
+use mathlib.Core.Path.{sym, ap, _∙_}
+use mathlib.Core.List.{[]}
+use Prim.Native.Nat.{ℕ, _+_, _-_}
+use borrow.Author.Needs.{needs}
+use denote.Ref.{now}
+use Rattle.paper.specs.Layout.{count}
+use Rattle.paper.specs.Mend as paper
+use Rattle.repair.specs.Answers.{leftBy}
+use Rattle.repair.specs.Earlier.{asCheck}
+use Rattle.repair.proofs.MendingLaw.{seen-is, apart-refused, apart-fine, mend-fine}
+use Rattle.paper.specs.Views.{seen}
+use borrow.Author.Needs.{needs}
+use Rattle.repair.proofs.mending.mend_parsed.Statement.{statement}
+use Rattle.repair.proofs.mending.mend_parsed.Tie as tie
+
+mend-apart-requires : tie.Need-mend-apart-requires
+mend-apart-requires c κs =
+    let k = c .before .before .before .check-apart in
+    let s = c .before .before .before .before .before .before in
+    let x = now (s .args .bytes) in
+    (s .pre .0, apart-fine x (s .pre .1) (sym (ap asCheck (sym (c .before .enum-told .given .1)) ∙ k .ensures ∙ ap (λ (n : ℕ). paper.apartVerdict n 0 [] (seen n x)) (s .pre .0) ∙ ap (paper.apartVerdict (count x) 0 []) (seen-is x (s .pre .1)))))
+
+returns : tie.Need-returns
+returns c =
+    let k = c .before .before .before .check-apart in
+    let s = c .before .before .before .before .before .before in
+    let x = now (s .args .bytes) in
+    let e = apart-refused x (s .pre .1) _ _ (sym (ap asCheck (sym (c .before .refusal .given .1)) ∙ k .ensures ∙ ap (λ (n : ℕ). paper.apartVerdict n 0 [] (seen n x)) (s .pre .0) ∙ ap (paper.apartVerdict (count x) 0 []) (seen-is x (s .pre .1)))) in
+    (sym e, ap (λ (m : paper.Mending). leftBy m x) (sym e))
+
+returns-2 : tie.Need-returns-2
+returns-2 c =
+    let m = c .before .before .mend-apart in
+    let k = c .before .before .before .before .before .before .check-apart in
+    let s = c .before .before .before .before .before .before .before .before .before in
+    let x = now (s .args .bytes) in
+    let v = apart-fine x (s .pre .1) (sym (ap asCheck (sym (c .before .before .before .before .enum-told .given .1)) ∙ k .ensures ∙ ap (λ (n : ℕ). paper.apartVerdict n 0 [] (seen n x)) (s .pre .0) ∙ ap (paper.apartVerdict (count x) 0 []) (seen-is x (s .pre .1)))) in
+    (m .ensures .0, m .ensures .1 ∙ ap (λ (q : paper.Mending). leftBy q x) (sym (mend-fine x v)))
+
+pub mend-parsed-spec : {M : Type 1} → statement M
+mend-parsed-spec =
+    tie.close
+    (tie.spec
+    (λ c κs. search needs)
+    (λ c. search needs)
+    (λ c. search needs)
+    mend-apart-requires
+    (λ c. search needs)
+    returns
+    (λ c. search needs)
+    returns-2)

@@ -1,0 +1,180 @@
+// Mend: every header copy becomes the vote, every corrected word is stored with its check byte, nothing else moves. (FORMAT 10)
+ghost use mathlib.Core.Path.{_≡_};
+ghost use mathlib.Core.Bool.{cond};
+ghost use Prim.Native.Nat.{ℕ, _+_, _*_, _<_, _≤_};
+ghost use lib.Dec.{eqb};
+ghost use lib.ListN.{length, set};
+ghost use Rattle.paper.specs.Bytes.{at};
+ghost use Rattle.paper.specs.Refusals.{fine};
+ghost use Rattle.paper.specs.Layout.{count, headerLength};
+ghost use Rattle.paper.specs.Parse.{parseVerdict};
+ghost use Rattle.paper.specs.Scan.{pairsFrom, scan};
+ghost use Rattle.paper.specs.Mend as paper;
+ghost use Rattle.laws.specs.Steps.{copyVote, copyVotes, mendHeader, mendWords};
+ghost use Rattle.scan.specs.Answers.{asScan};
+ghost use Rattle.repair.specs.Answers.{asMended, asMending, leftBy, correctedIn};
+use super::apart::Check;
+use super::apart::check_apart;
+use super::runs::run_of;
+use super::words::fix_word;
+use error::Refusal;
+use scalar::maj3;
+use scan::Scan;
+use scan::verify_all;
+use view::Header;
+use view::ParseResult;
+use view::parse;
+
+// What was found before anything was written, how many bytes changed, and whether no word is left uncorrectable.
+pub struct Mending {
+    pub report: Scan,
+    pub stored: usize,
+    pub whole: bool,
+}
+
+pub enum MendResult {
+    Mended(Mending),
+    Refused(Refusal),
+}
+
+// v at place p, and the number of bytes that changed.
+fn put(bytes: &mut [u8], p: usize, v: u8) -> usize
+    requires { ⌜ p < length (now bytes) ⌝ }
+    ensures leaves { λ r. ⌜ now (bytes .exit) ≡ set (now (bytes .entry)) p v ⌝ }
+    ensures counts { λ r. ⌜ r ≡ cond (eqb (at (now (bytes .entry)) p) v) 0 1 ⌝ }
+{
+    let old = bytes[p];
+    bytes[p] = v;
+    if old == v { 0 } else { 1 }
+}
+
+// The vote on byte j of three copies of k bytes each, put into all three; the number of bytes that changed.
+fn settle_byte(bytes: &mut [u8], base: usize, k: usize, j: usize) -> usize
+    requires { ⌜ (j < k) × (base + 3 * k ≤ length (now bytes)) ⌝ }
+    ensures leaves { λ r. ⌜ now (bytes .exit) ≡ copyVote base k j (now (bytes .entry)) ⌝ }
+    ensures counts { λ r. ⌜ r ≡ paper.changed (now (bytes .entry)) (now (bytes .exit)) ⌝ }
+{
+    let v = maj3(
+        bytes[base + j],
+        bytes[base + k + j],
+        bytes[base + 2 * k + j],
+    );
+    let first = put(bytes, base + j, v);
+    let second = put(bytes, base + k + j, v);
+    let third = put(bytes, base + 2 * k + j, v);
+    first + second + third
+}
+
+// All of their bytes.
+fn settle_copies(bytes: &mut [u8], base: usize, k: usize) -> usize
+    requires { ⌜ base + 3 * k ≤ length (now bytes) ⌝ }
+    ensures leaves { λ r. ⌜ now (bytes .exit) ≡ copyVotes base k k 0 (now (bytes .entry)) ⌝ }
+    ensures counts { λ r. ⌜ r ≡ paper.changed (now (bytes .entry)) (now (bytes .exit)) ⌝ }
+{
+    let mut stored: usize = 0;
+    let mut j: usize = 0;
+    while j < k {
+        stored += settle_byte(bytes, base, k, j);
+        j += 1;
+    }
+    stored
+}
+
+// The copies of the prologue, and those of the directory.
+fn mend_header(bytes: &mut [u8], region_count: u16) -> usize
+    requires { ⌜ («region_count» ≡ count (now bytes)) × (headerLength «region_count» ≤ length (now bytes)) ⌝ }
+    ensures leaves { λ r. ⌜ now (bytes .exit) ≡ mendHeader (now (bytes .entry)) ⌝ }
+    ensures counts { λ r. ⌜ r ≡ paper.changed (now (bytes .entry)) (now (bytes .exit)) ⌝ }
+{
+    let prologue = settle_copies(bytes, 0, 16);
+    let directory = settle_copies(bytes, 48, 16 * (region_count as usize));
+    prologue + directory
+}
+
+// n words from word on, with check bytes from check on, ascending.
+fn fix_words(bytes: &mut [u8], word: usize, check: usize, n: usize)
+    requires { ⌜ (8 * (word + n) ≤ length (now bytes)) × (check + n ≤ length (now bytes)) ⌝ }
+    ensures { λ r. ⌜ now (bytes .exit) ≡ paper.fixAll (pairsFrom n word check) (now (bytes .entry)) ⌝ }
+{
+    let mut k: usize = 0;
+    while k < n {
+        fix_word(bytes, word + k, check + k);
+        k += 1;
+    }
+}
+
+// Every examined word.
+fn mend_words(bytes: &mut [u8], header: Header)
+    requires { ⌜ (header .«region_count» ≡ count (now bytes)) × (paper.mendVerdict (now bytes) ≡ fine) ⌝ }
+    ensures { λ r. ⌜ now (bytes .exit) ≡ mendWords (now (bytes .entry)) ⌝ }
+{
+    let n = header.region_count;
+    let mut i: u16 = 0;
+    while i < n {
+        let run = run_of(bytes, header, i);
+        fix_words(bytes, run.word, run.check, run.words);
+        i += 1;
+    }
+}
+
+fn corrected_in(report: Scan) -> usize
+    ensures { λ r. ⌜ r ≡ correctedIn (asScan report) ⌝ }
+{
+    match report {
+        Scan::Report(counts) => counts.corrected,
+        Scan::Nothing => 0,
+    }
+}
+
+// Nothing is whole without a report.
+fn is_whole(report: Scan) -> bool
+    ensures { λ r. ⌜ r ≡ paper.wholeOf (asScan report) ⌝ }
+{
+    match report {
+        Scan::Report(counts) => counts.uncorrectable == 0,
+        Scan::Nothing => false,
+    }
+}
+
+// Of an image whose regions are laid apart. The words are passed a second time only where one of them is to be stored.
+fn mend_apart(bytes: &mut [u8], header: Header) -> Mending
+    requires { ⌜ (header .«region_count» ≡ count (now bytes)) × (paper.mendVerdict (now bytes) ≡ fine) ⌝ }
+    ensures is { λ r. ⌜ asMending r (now (bytes .exit)) ≡ paper.mend (now (bytes .entry)) ⌝ }
+    ensures leaves { λ r. ⌜ now (bytes .exit) ≡ paper.mendBytes (now (bytes .entry)) ⌝ }
+{
+    let report = verify_all(bytes, header);
+    let in_header = mend_header(bytes, header.region_count);
+    let in_words = corrected_in(report);
+    if in_words != 0 {
+        mend_words(bytes, header);
+    }
+    Mending {
+        report,
+        stored: in_header + in_words,
+        whole: is_whole(report),
+    }
+}
+
+// Of an image that parses.
+fn mend_parsed(bytes: &mut [u8], header: Header) -> MendResult
+    requires { ⌜ (header .«region_count» ≡ count (now bytes)) × (parseVerdict (now bytes) ≡ fine) ⌝ }
+    ensures is { λ r. ⌜ asMended r (now (bytes .exit)) ≡ paper.mend (now (bytes .entry)) ⌝ }
+    ensures leaves { λ r. ⌜ now (bytes .exit) ≡ leftBy (paper.mend (now (bytes .entry))) (now (bytes .entry)) ⌝ }
+{
+    match check_apart(bytes, header) {
+        Check::Refuse(refusal) => MendResult::Refused(refusal),
+        Check::Fine => MendResult::Mended(mend_apart(bytes, header)),
+    }
+}
+
+// Repairs what the header's votes and the parity decide, and refuses, with no byte written, where regions overlap.
+// The image has to be parsed afresh before it is loaded.
+pub fn mend(bytes: &mut [u8]) -> MendResult
+    ensures is { λ r. ⌜ asMended r (now (bytes .exit)) ≡ paper.mend (now (bytes .entry)) ⌝ }
+    ensures leaves { λ r. ⌜ now (bytes .exit) ≡ leftBy (paper.mend (now (bytes .entry))) (now (bytes .entry)) ⌝ }
+{
+    match parse(bytes) {
+        ParseResult::Refused(refusal) => MendResult::Refused(refusal),
+        ParseResult::Parsed(header) => mend_parsed(bytes, header),
+    }
+}
