@@ -5,3 +5,4 @@ pub mod RunLaw
 pub mod ApartLaw
 pub mod SettleLaw
 pub mod MendingLaw
+pub mod OneAnswer

@@ -1,2 +1,3 @@
 pub mod RegionLaw
 pub mod TotalLaw
+pub mod OneAnswer

@@ -1,3 +1,4 @@
 pub mod KindsLaw
 pub mod AnswersLaw
 pub mod SeenLaw
+pub mod OneAnswer

@@ -1,0 +1,31 @@
+-- No two answers of `mend` fit one promise: `asMended` tells every two apart, whatever bytes are left. Assumes nothing.
+-- (`scrub` answers a Scan: `one-scan` of crate scan.)
+use mathlib.Core.Path.{_≡_, refl, ap}
+use mathlib.Core.Bool.{Bool}
+use mathlib.Core.List.{List}
+use Prim.Native.Nat.{ℕ}
+use Rattle.paper.specs.Refusals.{Verdict, refuse}
+use Rattle.paper.specs.Mend as paper
+use Rattle.error.specs.Refused.{asVerdict}
+use Rattle.error.proofs.OneAnswer.{one-refusal}
+use Rattle.scan.specs.declared.Scan.{Scan}
+use Rattle.scan.specs.Answers.{asScan}
+use Rattle.scan.proofs.OneAnswer.{one-scan}
+use Rattle.repair.specs.declared.mending.Mending.{Mending}
+use Rattle.repair.specs.declared.mending.MendResult.{MendResult}
+use Rattle.repair.specs.declared.mending.MendResult.the-variants.{Mended, Refused}
+use Rattle.repair.specs.Answers.{asMending, asMended}
+
+pub one-mending : (a b : Mending) (x y : List ℕ) → asMending a x ≡ asMending b y → a ≡ b
+one-mending a b x y e =
+    let f : asScan (a .report) ≡ asScan (b .report) = cc in
+    let r : a .report ≡ b .report = one-scan (a .report) (b .report) f in
+    let s : a .stored ≡ b .stored = cc in
+    let w : a .whole ≡ b .whole = cc in
+    rw (r, s, w) refl
+
+pub one-mend : (a b : MendResult) (x y : List ℕ) → asMended a x ≡ asMended b y → a ≡ b
+one-mend (Mended m) (Mended n) x y e = ap Mended (one-mending m n x y e)
+one-mend (Mended m) (Refused r) x y e = cc
+one-mend (Refused r) (Mended n) x y e = cc
+one-mend (Refused r) (Refused q) x y e = let v : asVerdict r ≡ asVerdict q = cc in ap Refused (one-refusal r q v)
