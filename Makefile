@@ -5,18 +5,21 @@
 #   make compare    run ours and the Rust on the same inputs (SEED=N for other random ones)
 #   make soak       the same with a hundred times the random inputs and a seed of its own
 #   make replay     hold ours against the recorded answers; needs no Rust
+#   make face       the C example on sample images, installed and not; the stack that a call takes
 #   make bench      time ours beside the Rust
 #   make record     make tests/answers anew from the Rust
 #   make sample     see that tests/answers is what 'make record' makes
+#   make install    header, archive and kw.pc to PREFIX (/usr/local), below DESTDIR if that is set
 #   make clean      remove all that was built
 #
 #   KW_ORACLE=FOLDER   where the unchanged Rust is, if not in ../shared/docs/src
-#   KW_TEST_LIB=FILE   an archive to compare, replay or bench in place of ours; make test ignores it
+#   KW_TEST_LIB=FILE   an archive to compare, replay or bench in place of ours, and KW_LIB=FILE one in
+#                      place of libkw.a; make test ignores them
 
 MAKEFLAGS += --no-print-directory
 .NOTPARALLEL:
 .DELETE_ON_ERROR:
-.PHONY: all archives test compare soak replay bench record sample clean help
+.PHONY: all archives test compare soak replay face bench record sample install clean help
 
 ifeq ($(strip $(KW_ORACLE)),)
 KW_ORACLE = ../shared/docs/src
@@ -24,10 +27,8 @@ endif
 export KW_ORACLE
 
 KW_TEST_LIB = target/staticlib/libkw_test.a
-
-# kw_test is always wanted, kw as soon as crates.txt lists it.
-LISTED = $(shell sed 's/[\#:].*//' crates.txt)
-ARCHIVES = $(patsubst %,target/staticlib/lib%.a,kw_test $(filter kw,$(LISTED)))
+KW_LIB = target/staticlib/libkw.a
+ARCHIVES = target/staticlib/libkw_test.a target/staticlib/libkw.a
 PROVED = crates.txt $(shell find crates -name '*.rt' -o -name '*.antt')
 
 all:
@@ -52,6 +53,9 @@ soak: host/build/compare
 replay: host/build/replay
 	host/build/replay tests/answers/*.txt
 
+face: host/build/firmware host/build/stack host/build/replay
+	sh tests/face.sh $(KW_LIB)
+
 bench: host/build/bench
 	host/build/bench
 
@@ -64,6 +68,15 @@ sample: host/build/record
 	mkdir host/build/answers
 	host/build/record host/build/answers
 	diff -r tests/answers host/build/answers
+
+PREFIX = /usr/local
+DESTDIR =
+
+install: $(KW_LIB)
+	install -d $(DESTDIR)$(PREFIX)/include $(DESTDIR)$(PREFIX)/lib/pkgconfig
+	install -m 644 include/kw.h $(DESTDIR)$(PREFIX)/include/kw.h
+	install -m 644 $(KW_LIB) $(DESTDIR)$(PREFIX)/lib/libkw.a
+	sed 's|@PREFIX@|$(PREFIX)|' include/kw.pc.in >$(DESTDIR)$(PREFIX)/lib/pkgconfig/kw.pc
 
 clean:
 	rm -rf target host/build
@@ -79,10 +92,11 @@ CHECKED = -C overflow-checks=on
 SHIPPED = -C target-cpu=x86-64
 ORACLE = --crate-type rlib --crate-name keleusma_wire $(KW_ORACLE)/keleusma-wire/src/lib.rs
 WITH_ORACLE = --extern keleusma_wire=$<
-WITH_OURS = -C link-arg=$(KW_TEST_LIB)
+WITH_OURS = -C link-arg=$(KW_TEST_LIB) -C link-arg=$(KW_LIB)
+OURS = $(KW_TEST_LIB) $(KW_LIB)
 
 # All built anew each time: it takes a second, and none is left over from another archive or Rust.
-BUILT = $(addprefix host/build/,libchecked.rlib libshipped.rlib compare record bench replay)
+BUILT = $(addprefix host/build/,libchecked.rlib libshipped.rlib compare record bench replay firmware stack)
 .PHONY: $(BUILT)
 $(BUILT): | host/build
 
@@ -95,14 +109,23 @@ host/build/libchecked.rlib:
 host/build/libshipped.rlib:
 	$(RUSTC) $(SHIPPED) $(ORACLE) -o $@
 
-host/build/compare: host/build/libchecked.rlib $(KW_TEST_LIB)
+host/build/compare: host/build/libchecked.rlib $(OURS)
 	$(RUSTC) $(CHECKED) $(WITH_ORACLE) host/compare/main.rs $(WITH_OURS) -o $@
 
 host/build/record: host/build/libchecked.rlib
 	$(RUSTC) $(CHECKED) $(WITH_ORACLE) host/record/main.rs -o $@
 
-host/build/bench: host/build/libshipped.rlib $(KW_TEST_LIB)
+host/build/bench: host/build/libshipped.rlib $(OURS)
 	$(RUSTC) $(SHIPPED) $(WITH_ORACLE) host/bench/main.rs $(WITH_OURS) -o $@
 
-host/build/replay: $(KW_TEST_LIB)
-	gcc -std=c11 -Wall -Wextra -Werror -O1 tests/replay.c $(KW_TEST_LIB) -o $@
+CC_STRICT = gcc -std=c11 -Wall -Wextra -Werror -Iinclude
+
+host/build/replay: $(OURS)
+	$(CC_STRICT) -O1 tests/replay.c $(OURS) -o $@
+
+host/build/firmware: $(KW_LIB)
+	$(CC_STRICT) -O2 host/example/firmware.c $(KW_LIB) -o $@
+
+# The frame pointer says where a caller's frame stands.
+host/build/stack: $(OURS)
+	$(CC_STRICT) -O1 -fno-omit-frame-pointer host/stack/main.c $(OURS) -pthread -o $@

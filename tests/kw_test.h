@@ -1,6 +1,6 @@
 /* The functions of libkw_test.a (crate kw_test), which only the comparison and the replay call.
    A slice passes as pointer and length. Every number of an answer is written at every call; where a
-   function can answer "nothing", its answer is {1, value} or {0, 0}. */
+   function can answer "nothing", its answer is {1, value} or zeros. */
 #ifndef KW_TEST_H
 #define KW_TEST_H
 
@@ -37,5 +37,41 @@ void kwt_plane_scan(const uint8_t *parity, size_t parity_len, const uint8_t *dat
                     uint64_t answer[3]);
 /* {is clean, needs scrub} */
 void kwt_report(size_t words, size_t corrected, size_t uncorrectable, uint64_t answer[2]);
+
+/* {0, count, prologue disagreed, directory disagreed}, or {number, detail, 0, 0} */
+void kwt_parse(const uint8_t *b, size_t len, uint64_t answer[4]);
+/* {1, kind, flags, word offset, word length, covers}, or zeros */
+void kwt_region_at(const uint8_t *b, size_t len, uint16_t count, uint16_t index, uint64_t answer[6]);
+void kwt_find_region(const uint8_t *b, size_t len, uint16_t count, uint16_t kind,
+                     uint64_t answer[6]);
+/* {1, start, end}, or zeros */
+void kwt_ecc_for(const uint8_t *b, size_t len, uint16_t count, uint16_t kind, uint64_t answer[3]);
+
+/* {0, start, end}, or {number, detail, 0} */
+void kwt_region_span(size_t len, uint32_t word_offset, uint32_t word_length, uint64_t answer[3]);
+void kwt_records_span(size_t len, uint32_t word_offset, uint32_t word_length, size_t stride,
+                      uint64_t answer[3]);
+/* {1, start, end}, or zeros */
+void kwt_record_place(size_t len, size_t stride, size_t index, uint64_t answer[3]);
+void kwt_pool_place(size_t len, uint32_t offset, uint32_t size, uint64_t answer[3]);
+uint32_t kwt_is_table(const uint8_t *b, size_t len, size_t stride);
+size_t kwt_record_count(const uint8_t *b, size_t len, size_t stride);
+uint32_t kwt_range_is_forward(const uint8_t *b, size_t len, size_t stride, size_t at, uint32_t first,
+                              uint32_t count);
+/* {length, CRC-32} of the part */
+void kwt_region_bytes(const uint8_t *b, size_t len, uint32_t word_offset, uint32_t word_length,
+                      uint64_t answer[2]);
+void kwt_records_bytes(const uint8_t *b, size_t len, uint32_t word_offset, uint32_t word_length,
+                       size_t stride, uint64_t answer[2]);
+void kwt_record_bytes(const uint8_t *b, size_t len, size_t stride, size_t index, uint64_t answer[2]);
+void kwt_pool_bytes(const uint8_t *b, size_t len, uint32_t offset, uint32_t size,
+                    uint64_t answer[2]);
+
+/* {1, words, corrected, uncorrectable}, or zeros */
+void kwt_verify_region(const uint8_t *b, size_t len, uint16_t count, uint16_t kind, uint16_t flags,
+                       uint32_t word_offset, uint32_t word_length, uint16_t covers,
+                       uint64_t answer[4]);
+void kwt_verify_all(const uint8_t *b, size_t len, uint16_t count, uint64_t answer[4]);
+void kwt_scrub(uint8_t *b, size_t len, uint64_t answer[4]);
 
 #endif

@@ -1,9 +1,11 @@
-/* Replays recorded answers of the Rust against libkw_test.a.
+/* Replays recorded answers of the Rust against libkw_test.a and libkw.a.
 
    usage: replay FILE...
 
    A line is `function arguments -> answer`; lines that start with '#' are comments. Numbers are
-   decimal. Bytes are hex, `-` for none, `00*600` for one byte repeated. Prints
+   decimal. Bytes are hex, `-` for none, `00*600` for some repeated, `#1024` for directory entries of
+   the kinds 0 to 1023 that are 0 otherwise, joined by `+`. Where bytes are lent to be written, the
+   answer ends with those that moved, as `PLACE=VALUE,...` or `-`. Prints
    `replayed N lines, M different`; exit status 1 if a line differs or isn't understood, or if a file
    has no line. A new function is one row of `rows` and the one-line call that the row names. */
 #define _POSIX_C_SOURCE 200809L
@@ -11,9 +13,11 @@
 #include <stdio.h>
 #include <stdlib.h>
 #include <string.h>
+#include "../include/kw.h"
 #include "kw_test.h"
 
 enum { MOST_SLICES = 2, MOST_NUMBERS = 8, MOST_BYTES = 8, LONGEST_BYTES = 1 << 24, SHOWN = 10 };
+enum { LONGEST_ANSWER = 4096 };
 
 struct slice {
     uint8_t *bytes;
@@ -54,10 +58,45 @@ CALL(decode_word) { kwt_decode_word(in->n[0], (uint8_t)in->n[1], out->n); }
 CALL(plane_word) { kwt_plane_word(SLICE(0), SLICE(1), in->n[0], out->n); }
 CALL(plane_scan) { kwt_plane_scan(SLICE(0), SLICE(1), out->n); }
 CALL(report) { kwt_report(in->n[0], in->n[1], in->n[2], out->n); }
+CALL(parse) { kwt_parse(SLICE(0), out->n); }
+CALL(region_at) { kwt_region_at(SLICE(0), (uint16_t)in->n[0], (uint16_t)in->n[1], out->n); }
+CALL(find_region) { kwt_find_region(SLICE(0), (uint16_t)in->n[0], (uint16_t)in->n[1], out->n); }
+CALL(ecc_for) { kwt_ecc_for(SLICE(0), (uint16_t)in->n[0], (uint16_t)in->n[1], out->n); }
+CALL(region_span) {
+    kwt_region_span(in->n[0], (uint32_t)in->n[1], (uint32_t)in->n[2], out->n);
+}
+CALL(records_span) {
+    kwt_records_span(in->n[0], (uint32_t)in->n[1], (uint32_t)in->n[2], in->n[3], out->n);
+}
+CALL(record_place) { kwt_record_place(in->n[0], in->n[1], in->n[2], out->n); }
+CALL(pool_place) { kwt_pool_place(in->n[0], (uint32_t)in->n[1], (uint32_t)in->n[2], out->n); }
+CALL(is_table) { out->n[0] = kwt_is_table(SLICE(0), in->n[0]); }
+CALL(record_count) { out->n[0] = kwt_record_count(SLICE(0), in->n[0]); }
+CALL(range_is_forward) {
+    out->n[0] = kwt_range_is_forward(SLICE(0), in->n[0], in->n[1], (uint32_t)in->n[2],
+                                     (uint32_t)in->n[3]);
+}
+CALL(region_bytes) {
+    kwt_region_bytes(SLICE(0), (uint32_t)in->n[0], (uint32_t)in->n[1], out->n);
+}
+CALL(records_bytes) {
+    kwt_records_bytes(SLICE(0), (uint32_t)in->n[0], (uint32_t)in->n[1], in->n[2], out->n);
+}
+CALL(record_bytes) { kwt_record_bytes(SLICE(0), in->n[0], in->n[1], out->n); }
+CALL(pool_bytes) { kwt_pool_bytes(SLICE(0), (uint32_t)in->n[0], (uint32_t)in->n[1], out->n); }
+CALL(verify_region) {
+    kwt_verify_region(SLICE(0), (uint16_t)in->n[0], (uint16_t)in->n[1], (uint16_t)in->n[2],
+                      (uint32_t)in->n[3], (uint32_t)in->n[4], (uint16_t)in->n[5], out->n);
+}
+CALL(verify_all) { kwt_verify_all(SLICE(0), (uint16_t)in->n[0], out->n); }
+CALL(scrub) { kwt_scrub(SLICE(0), out->n); }
+CALL(kw_parse) { out->n[0] = kw_parse(SLICE(0), out->n + 1); }
+CALL(kw_scan) { out->n[0] = kw_scan(SLICE(0), out->n + 1); }
+CALL(kw_scrub) { out->n[0] = kw_scrub(SLICE(0), out->n + 1); }
 
 struct row {
     const char *name;
-    const char *takes; /* b: bytes; 1, 2, 4, 8: a number of that many bytes */
+    const char *takes; /* b: bytes; w: bytes to be written; 1, 2, 4, 8: a number of so many bytes */
     int numbers;       /* numbers of the answer, or */
     int bytes;         /* bytes of the answer */
     void (*call)(const struct input *, struct output *);
@@ -83,6 +122,27 @@ static const struct row rows[] = {
     {"plane_word", "bb8", 3, 0, call_plane_word},
     {"plane_scan", "bb", 3, 0, call_plane_scan},
     {"report", "888", 2, 0, call_report},
+    {"parse", "b", 4, 0, call_parse},
+    {"region_at", "b22", 6, 0, call_region_at},
+    {"find_region", "b22", 6, 0, call_find_region},
+    {"ecc_for", "b22", 3, 0, call_ecc_for},
+    {"region_span", "844", 3, 0, call_region_span},
+    {"records_span", "8448", 3, 0, call_records_span},
+    {"record_place", "888", 3, 0, call_record_place},
+    {"pool_place", "844", 3, 0, call_pool_place},
+    {"is_table", "b8", 1, 0, call_is_table},
+    {"record_count", "b8", 1, 0, call_record_count},
+    {"range_is_forward", "b8844", 1, 0, call_range_is_forward},
+    {"region_bytes", "b44", 2, 0, call_region_bytes},
+    {"records_bytes", "b448", 2, 0, call_records_bytes},
+    {"record_bytes", "b88", 2, 0, call_record_bytes},
+    {"pool_bytes", "b44", 2, 0, call_pool_bytes},
+    {"verify_region", "b222442", 4, 0, call_verify_region},
+    {"verify_all", "b2", 4, 0, call_verify_all},
+    {"scrub", "w", 4, 0, call_scrub},
+    {"kw_parse", "b", 3, 0, call_kw_parse},
+    {"kw_scan", "b", 5, 0, call_kw_scan},
+    {"kw_scrub", "w", 5, 0, call_kw_scrub},
 };
 
 /* Reads a decimal number of at most `width` bytes; 0 if it isn't one. */
@@ -111,20 +171,47 @@ static int read_byte(const char *two, uint8_t *byte) {
     return low >= 0;
 }
 
-/* Reads `-`, `XX*COUNT` or hex into fresh memory; 0 if it is none of them. */
-static int read_bytes(const char *word, struct slice *b) {
-    uint64_t count = 1;
-    size_t hex = strcspn(word, "*");
-    int repeated = word[hex] == '*';
-    if (repeated && (hex != 2 || !read_number(word + hex + 1, 8, &count))) return 0;
-    if (strcmp(word, "-") == 0) hex = 0;
-    if (hex % 2 != 0 || count > LONGEST_BYTES) return 0;
-    b->len = hex / 2 * (size_t)count;
+/* Writes `#COUNT` or hex, and `*COUNT` times over, to `to` if that isn't NULL. Leaves its length in
+   `len`; 0 if it is neither. */
+static int read_part(const char *part, uint8_t *to, size_t *len) {
+    uint64_t count = 1, entries = 0;
+    size_t plain = strcspn(part, "*");
+    if (part[plain] == '*' && !read_number(part + plain + 1, 8, &count)) return 0;
+    if (part[0] == '#') {
+        char digits[8] = "";
+        if (plain > sizeof digits) return 0;
+        memcpy(digits, part + 1, plain - 1);
+        if (!read_number(digits, 2, &entries)) return 0;
+    } else if (plain % 2 != 0) {
+        return 0;
+    }
+    size_t once = part[0] == '#' ? 16 * (size_t)entries : plain / 2;
+    if (count > LONGEST_BYTES || (*len = once * (size_t)count) > LONGEST_BYTES) return 0;
+    for (size_t i = 0; to != NULL && i < *len; i++) {
+        size_t at = i % once;
+        if (part[0] == '#')
+            to[i] = at % 16 == 0 ? (uint8_t)(at / 16) : at % 16 == 1 ? (uint8_t)(at / 4096) : 0;
+        else if (!read_byte(part + 2 * at, &to[i]))
+            return 0;
+    }
+    return 1;
+}
+
+/* Reads `-`, or parts joined by `+`, into fresh memory; 0 if it is neither. */
+static int read_bytes(char *word, struct slice *b) {
+    char *parts = strcmp(word, "-") == 0 ? word + 1 : word;
+    char *end = word + strlen(word);
+    size_t len;
+    for (char *p = parts; p < end; p++)
+        if (*p == '+') *p = '\0';
+    for (char *p = parts; p < end; p += strlen(p) + 1, b->len += len)
+        if (!read_part(p, NULL, &len)) return 0;
     /* exactly as long as the input, so that a checker of memory sees a read past its end */
     b->bytes = malloc(b->len > 0 ? b->len : 1);
     if (b->bytes == NULL) return 0;
-    for (size_t i = 0; i < b->len; i++)
-        if (!read_byte(word + (repeated ? 0 : 2 * i), &b->bytes[i])) return 0;
+    uint8_t *to = b->bytes;
+    for (char *p = parts; p < end; p += strlen(p) + 1, to += len)
+        if (!read_part(p, to, &len)) return 0;
     return 1;
 }
 
@@ -134,21 +221,38 @@ static int read_input(char *arguments, const char *takes, struct input *in) {
     char *word = strtok_r(arguments, " ", &rest);
     for (int b = 0, n = 0; *takes != '\0'; takes++, word = strtok_r(NULL, " ", &rest)) {
         if (word == NULL) return 0;
-        if (*takes == 'b' ? !read_bytes(word, &in->b[b++])
-                          : !read_number(word, *takes - '0', &in->n[n++]))
+        if (*takes == 'b' || *takes == 'w' ? !read_bytes(word, &in->b[b++])
+                                           : !read_number(word, *takes - '0', &in->n[n++]))
             return 0;
     }
     return word == NULL;
 }
 
-/* Writes our answer as the recorded lines have it. */
-static void answer_text(const struct row *row, const struct output *out, char *text, size_t room) {
-    size_t at = 0;
-    text[0] = '\0';
-    for (int i = 0; i < row->numbers; i++)
-        at += (size_t)snprintf(text + at, room - at, "%s%" PRIu64, i > 0 ? " " : "", out->n[i]);
-    for (int i = 0; i < row->bytes; i++)
-        at += (size_t)snprintf(text + at, room - at, "%02x", out->bytes[i]);
+struct text {
+    char *at;
+    size_t room;
+};
+
+#define ADD(TEXT, ...) added(TEXT, snprintf((TEXT)->at, (TEXT)->room, __VA_ARGS__))
+static void added(struct text *text, int len) {
+    if (len < 0 || (size_t)len >= text->room) exit(2);
+    text->at += len;
+    text->room -= (size_t)len;
+}
+
+/* Writes our answer as the recorded lines have it; `before` has the bytes that were lent. */
+static void answer_text(const struct row *row, const struct output *out, const struct slice *after,
+                        const uint8_t *before, struct text *text) {
+    for (int i = 0; i < row->numbers; i++) ADD(text, "%s%" PRIu64, i > 0 ? " " : "", out->n[i]);
+    for (int i = 0; i < row->bytes; i++) ADD(text, "%02x", out->bytes[i]);
+    if (row->takes[0] != 'w') return;
+    const char *joint = " ";
+    for (size_t i = 0; i < after->len; i++)
+        if (after->bytes[i] != before[i]) {
+            ADD(text, "%s%zu=%02x", joint, i, after->bytes[i]);
+            joint = ",";
+        }
+    if (joint[0] == ' ') ADD(text, " -");
 }
 
 static const struct row *find_row(const char *name) {
@@ -166,14 +270,19 @@ static const char *run_line(char *line, char *ours, size_t room) {
     *space = *arrow = '\0';
     const struct row *row = find_row(line);
     struct input in = {0};
+    uint8_t *before = NULL;
     const char *recorded = NULL;
     if (row != NULL && read_input(space + 1, row->takes, &in)) {
         struct output out;
+        struct text text = {ours, room};
         memset(&out, 0xA5, sizeof out); /* what a call leaves unwritten is seen as a difference */
+        if ((before = malloc(in.b[0].len + 1)) == NULL) exit(2);
+        if (in.b[0].len > 0) memcpy(before, in.b[0].bytes, in.b[0].len);
         row->call(&in, &out);
-        answer_text(row, &out, ours, room);
+        answer_text(row, &out, &in.b[0], before, &text);
         recorded = arrow + 4;
     }
+    free(before);
     for (int i = 0; i < MOST_SLICES; i++) free(in.b[i].bytes);
     return recorded;
 }
@@ -183,7 +292,7 @@ struct tally {
 };
 
 static void replay_line(const char *path, unsigned long number, char *line, struct tally *tally) {
-    char ours[256];
+    char ours[LONGEST_ANSWER];
     const char *recorded = run_line(line, ours, sizeof ours);
     tally->lines++;
     if (recorded != NULL && strcmp(ours, recorded) == 0) return;

@@ -49,10 +49,10 @@ mod c {
 
 /// What a lent number or byte holds before the call. A callee must write all of its answer; what it
 /// leaves out keeps this value and so differs from the Rust's.
-const UNWRITTEN: u64 = 0xA5A5_A5A5_A5A5_A5A5;
+pub const UNWRITTEN: u64 = 0xA5A5_A5A5_A5A5_A5A5;
 
 /// Lends room for `N` numbers; as many guards stand behind them.
-fn numbers<const N: usize>(call: impl FnOnce(*mut u64)) -> [u64; N] {
+pub fn numbers<const N: usize>(call: impl FnOnce(*mut u64)) -> [u64; N] {
     let mut room = [[UNWRITTEN; N]; 2];
     call(room.as_mut_ptr().cast());
     assert!(room[1] == [UNWRITTEN; N], "a call wrote past its answer");

@@ -101,7 +101,7 @@ pub fn image(entries: &[Entry], len: usize) -> Vec<u8> {
     image
 }
 
-fn prologue(count: u16) -> Vec<u8> {
+pub fn prologue(count: u16) -> Vec<u8> {
     let (magic, marker, version, flags) = (0x4B41_5558u32, 0xFEFFu16, 2u16, 0u16);
     let mut bytes = magic.to_le_bytes().to_vec();
     for field in [marker, version, count, flags] {

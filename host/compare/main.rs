@@ -5,13 +5,26 @@
 //! ROUNDS (default 1) multiplies the random inputs. There is one module for each of our crates,
 //! with a function `compare`. Exit status 1 if an answer differs or nothing was compared.
 
+mod answers;
 mod crc;
 mod ecc;
 mod ffi;
+mod ffi_face;
+mod ffi_reader;
+mod images;
 mod inputs;
 mod layout;
+mod paper;
+#[allow(dead_code)]
+mod plan;
 mod scalar;
+mod scan;
+mod scrub;
+mod tables;
 mod tally;
+mod view;
+#[allow(dead_code)] // it is called below as soon as libkw.a has kw_write
+mod writer;
 
 use inputs::Random;
 use std::process::ExitCode;
@@ -35,6 +48,11 @@ fn main() -> ExitCode {
     crc::compare(&mut run);
     layout::compare(&mut run);
     ecc::compare(&mut run);
+    view::compare(&mut run);
+    tables::compare(&mut run);
+    scan::compare(&mut run);
+    scrub::compare(&mut run);
+    // writer::compare(&mut run);
     if run.tally.finish() {
         ExitCode::SUCCESS
     } else {

@@ -2,17 +2,33 @@
 //!
 //! usage: record FOLDER
 //!
-//! It calls the oracle alone. One file for each of our crates, one case a line:
+//! It calls the oracle alone, and adds the images that host/example is run on. One file for each of
+//! our crates, one case a line:
 //! function, arguments, `->`, answer. Numbers are decimal and bytes are hex; `-` stands for no
-//! bytes and `00*600` for one byte repeated. An answer that may be None is `1 VALUE` or `0 0`.
+//! bytes, `00*600` for bytes repeated, `#1024` for the directory entries of kinds 0 to 1023 that are
+//! 0 otherwise, and `+` joins such parts. An answer that may be None is `1 VALUE` or zeros; where
+//! the bytes are lent to be written, it ends with those that moved, `PLACE=VALUE`, or `-`.
 
+#[path = "../compare/answers.rs"]
+mod answers;
 mod crc;
 mod ecc;
-#[path = "../compare/inputs.rs"]
+mod image;
+#[path = "../compare/images.rs"]
 #[allow(dead_code)] // the comparison uses the rest
+mod images;
+#[path = "../compare/inputs.rs"]
+#[allow(dead_code)]
 mod inputs;
 mod layout;
+#[path = "../compare/paper.rs"]
+#[allow(dead_code)]
+mod paper;
 mod scalar;
+mod scan;
+mod scrub;
+mod tables;
+mod view;
 
 use std::{fs, path::Path};
 
@@ -22,6 +38,15 @@ fn main() {
     write(&folder, "crc", crc::lines());
     write(&folder, "layout", layout::lines());
     write(&folder, "ecc", ecc::lines());
+    write(&folder, "view", view::lines());
+    write(&folder, "tables", tables::lines());
+    write(&folder, "scan", scan::lines());
+    write(&folder, "scrub", scrub::lines());
+    let images = Path::new(&folder).join("images");
+    fs::create_dir_all(&images).expect("the folder is made");
+    for (name, bytes) in scrub::examples() {
+        fs::write(images.join(name).with_extension("kw"), bytes).expect("the file is written");
+    }
 }
 
 fn write(folder: &str, name: &str, lines: Vec<String>) {

@@ -7,3 +7,5 @@ pub mod Settles
 pub mod Touches
 pub mod ReadsBack
 pub mod Sample
+pub mod RunLaw
+pub mod Functions

@@ -20,6 +20,10 @@ use scalar::U16At;
 use scalar::U32At;
 use scalar::U64At;
 
+mod parts;
+mod reader;
+mod scans;
+
 // {1, the number}, or {0, 0} for nothing.
 #[no_mangle]
 pub extern "C" fn kwt_u8_at(b: &[u8], at: usize, answer: &mut [u64; 2])

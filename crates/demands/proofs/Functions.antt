@@ -1,0 +1,105 @@
+-- The demands of the functions themselves: `writer::write` and `repair::mend`, through their promises (specs/Runs.antt). Assumes nothing.
+use mathlib.Core.Path.{_≡_, refl, sym, ap, _∙_}
+use mathlib.Core.Bool.{Bool, true, false}
+use mathlib.Core.List.{List, []}
+use Prim.Native.Nat.{ℕ, _+_, _*_, _/_, _≤_, _<_}
+use lib.Dec.{ltb}
+use lib.ListN.{length, take}
+use Rattle.paper.specs.Bytes.{at, wordAt, Bytes}
+use Rattle.paper.specs.Refusals.{fine}
+use Rattle.paper.specs.Layout.{count, headerLength, directory, scrubWanted}
+use Rattle.paper.specs.Parse.{parse, accepted}
+use Rattle.paper.specs.Scan.{scan}
+use Rattle.paper.specs.Scrub.{scrub}
+use Rattle.paper.specs.Writer.{planes}
+use Rattle.paper.specs.Mend.{apartVerdict, changed, wholeOf, Mending, mended, mend}
+use Rattle.error.specs.declared.Refusal.{Refusal}
+use Rattle.scan.specs.Answers.{asScan}
+use Rattle.writer.specs.Answers.{asPlan}
+use Rattle.writer.specs.declared.plan.Row.{Row}
+use Rattle.writer.specs.declared.room.WriteResult.the-variants.{Written}
+use Rattle.writer.specs.declared.room.WriteResult.the-variants as write
+use Rattle.repair.specs.Answers.{asMended, leftBy}
+use Rattle.repair.specs.declared.mending.Mending as answer
+use Rattle.repair.specs.declared.mending.MendResult.{MendResult}
+use Rattle.repair.specs.declared.mending.MendResult.the-variants.{Mended, Refused}
+use Rattle.demands.specs.Damage.{Protected, Damaged, Touched, Lost, uncorrected, ReadsBack}
+use Rattle.demands.specs.Runs.{Writes, MendsTo}
+use Rattle.demands.proofs.Demands as demands
+use Rattle.demands.proofs.RunLaw as run
+
+-- ---- write left n bytes of image at the front of `after`; d is that image damaged, and mend of d answered r and left y
+
+module _ (rows : List Row) (payload out : List ℕ) (n : ℕ) (after : List ℕ) (wrote : Writes rows payload out (Written n) after) (bytes : Bytes payload) where
+  -- The damage of the allowed kind mends to the writer's exact bytes.
+  pub restores : (d : List ℕ) → Damaged 1 (take n after) d → (r : MendResult) (y : List ℕ) → MendsTo d r y
+      → (y ≡ take n after)
+      × (asMended r y ≡ mended (take n after) (scan d) (changed d (take n after)) (ltb 0 (planes (asPlan rows))))
+  restores d damage r y mends =
+      run.mends-to d r y _ mends
+      (demands.restores (asPlan rows) payload (length out) (take n after) d (run.written rows payload out n after wrote) bytes damage)
+
+  -- No other rows or payload come to it.
+  pub one-origin : (rows′ : List Row) (payload′ out′ : List ℕ) (n′ : ℕ) (after′ : List ℕ) → Writes rows′ payload′ out′ (Written n′) after′ → Bytes payload′
+      → (d : List ℕ) → Damaged 1 (take n after) d → Damaged 1 (take n′ after′) d → (rows ≡ rows′) × (payload ≡ payload′)
+  one-origin rows′ payload′ out′ n′ after′ wrote′ bytes′ d damage damage′ =
+      let o = demands.one-origin (asPlan rows) (asPlan rows′) payload payload′ (length out) (length out′) (take n after) (take n′ after′) d
+      (run.written rows payload out n after wrote) bytes (run.written rows′ payload′ out′ n′ after′ wrote′) bytes′ damage damage′ in
+      (run.same-rows rows rows′ (o .0), o .1)
+
+  -- With up to two bits wrong in each word: whole means the writer's bytes, and a word that is lost is as given.
+  pub whole-means-whole : (d : List ℕ) → Damaged 2 (take n after) d → (r : MendResult) (y : List ℕ) → MendsTo d r y
+      → (asMended r y ≡ mended y (scan d) (changed d y) (wholeOf (scan d)))
+      × (wholeOf (scan d) ≡ true → y ≡ take n after)
+      × ((q c : ℕ) → Protected (take n after) q c → Lost d q c → (wordAt y q ≡ wordAt d q) × (at y c ≡ at d c))
+      × ((p : ℕ) → ((q c : ℕ) → Protected (take n after) q c → Lost d q c → (q ≡ p / 8 → ⊥) × (c ≡ p → ⊥)) → at y p ≡ at (take n after) p)
+  whole-means-whole d damage r y mends =
+      let o = demands.whole-means-whole (asPlan rows) payload (length out) (take n after) d (run.written rows payload out n after wrote) bytes damage in
+      let m = run.mends-to d r y _ mends (o .1) in
+      let e = m .0 in (
+        m .1 ∙ ap (λ (z : List ℕ). mended z (scan d) (changed d z) (wholeOf (scan d))) (sym e),
+        λ t. e ∙ o .2 t,
+        λ q c p l. (ap (λ (z : List ℕ). wordAt z q) e ∙ o .3 q c p l .0, ap (λ (z : List ℕ). at z c) e ∙ o .3 q c p l .1),
+        λ p f. ap (λ (z : List ℕ). at z p) e ∙ o .4 p f,
+      )
+
+  -- What was written reads back.
+  pub written-reads-back : ReadsBack (asPlan rows) payload (take n after)
+  written-reads-back = demands.written-reads-back (asPlan rows) payload (length out) (take n after) (run.written rows payload out n after wrote) bytes
+
+-- ---- mend of any x answered m and left y
+
+module _ (x : List ℕ) (bytes : Bytes x) (m : answer.Mending) (y : List ℕ) (mends : MendsTo x (Mended m) y) where
+  -- Mending again leaves the same bytes, corrects nothing and stores nothing.
+  pub settles : (r : MendResult) (z : List ℕ) → MendsTo y r z → (z ≡ y) × (asMended r z ≡ mended y (uncorrected (asScan (m .report))) 0 (m .whole))
+  settles r z again =
+      run.mends-to y r z _ again (demands.settles x y (asScan (m .report)) (m .stored) (m .whole) bytes (run.mended x m y mends))
+
+  -- A byte that changed was outvoted, or the parity says that it holds the one flipped bit of its word.
+  pub touches-nothing-else : (length y ≡ length x) × ((p : ℕ) → (at y p ≡ at x p → ⊥) → Touched x p)
+  touches-nothing-else = demands.touches-nothing-else x y (asScan (m .report)) (m .stored) (m .whole) bytes (run.mended x m y mends)
+
+  -- What is left passes a fresh check.
+  pub fresh-check : (parse y ≡ accepted (record { regions = count x; prologueDisagreed = false; directoryDisagreed = false }))
+      × (scrubWanted y ≡ false)
+      × (directory y ≡ directory x)
+      × (apartVerdict (count y) 0 [] (directory y) ≡ fine)
+      × (scan y ≡ uncorrected (asScan (m .report)))
+  fresh-check =
+      let o = demands.fresh-check x y (asScan (m .report)) (m .stored) (m .whole) bytes (run.mended x m y mends) in
+      (o .0, o .1, o .3, o .4, o .5)
+
+  -- Scrub's report is mend's, and its bytes outside header and check bytes.
+  pub scrub-agrees : (scrub x .report ≡ asScan (m .report))
+      × ((p : ℕ) → headerLength (count x) ≤ p → ((q c : ℕ) → Protected x q c → c ≡ p → ⊥) → at (scrub x .image) p ≡ at y p)
+  scrub-agrees =
+      let o = demands.scrub-agrees x y (asScan (m .report)) (m .stored) (m .whole) bytes (run.mended x m y mends) in
+      (o .0, o .2)
+
+-- ---- a refusal leaves every byte
+
+pub refused-mend : (x : List ℕ) (r : Refusal) (y : List ℕ) → MendsTo x (Refused r) y → y ≡ x
+refused-mend = run.mend-refused
+
+pub refused-plan : (rows : List Row) (payload out : List ℕ) (r : Refusal) (after : List ℕ) → Writes rows payload out (write.Refused r) after → after ≡ out
+refused-plan = run.plan-refused

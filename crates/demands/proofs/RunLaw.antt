@@ -1,0 +1,77 @@
+-- What a run says of the definitions. Assumes nothing.
+use mathlib.Core.Path.{_≡_, refl, sym, ap, ap₂, _∙_}
+use mathlib.Core.List.{List, [], _∷_, _++_}
+use Prim.Native.Nat.{ℕ}
+use native.Mathlib.Omega.{arith}
+use denote.Ref.{now}
+use contract.Lifetimes.{Lfts}
+use lib.ListN.{length, take, drop}
+use lib.Seq.{take-append-seam}
+use Rattle.laws.specs.Steps.{over}
+use Rattle.paper.specs.Mend as paper
+use Rattle.paper.specs.Writer as plan
+use Rattle.error.specs.Refused.{numberOf, detailOf}
+use Rattle.error.specs.declared.Refusal.{Refusal}
+use Rattle.scan.specs.Answers.{asScan}
+use Rattle.writer.specs.Answers.{asRow, asPlan, asWritten, answerOf, bytesAfter, wrote, refused}
+use Rattle.writer.specs.declared.plan.Row.{Row}
+use Rattle.writer.specs.declared.room.WriteResult.{WriteResult}
+use Rattle.writer.specs.declared.room.WriteResult.the-variants.{Written}
+use Rattle.writer.specs.declared.room.WriteResult.the-variants as write
+use Rattle.repair.proofs.mend.Reads as function
+use Rattle.repair.specs.Answers.{asMended, leftBy}
+use Rattle.repair.specs.declared.mending.MendResult.{MendResult}
+use Rattle.repair.specs.declared.mending.MendResult.the-variants.{Mended, Refused}
+use Rattle.repair.specs.declared.mending.Mending.{Mending}
+use Rattle.demands.specs.Runs.{Writes, MendsTo}
+
+-- what the function's proof gives its callers is what `MendsTo` says
+pub mend-promised : (κs : Lfts 1) (a : _) (r : _) (ws : _) → function.Learnt κs a r ws → MendsTo (now (a .0)) r (now (ws .0))
+mend-promised κs a r ws p = record { answer = p .0; leaves = p .1 }
+
+-- ---- the writer wrote n bytes
+
+written-as : (w : plan.Written) (n : ℕ) (out after : List ℕ) → wrote n ≡ answerOf w → after ≡ bytesAfter w out → w ≡ plan.image (take n after)
+written-as (plan.image x) n out after e f =
+    let l : n ≡ length x = cc in
+    ap plan.image (sym (ap (λ (m : ℕ). take m after) l ∙ ap (take (length x)) f ∙ take-append-seam x (drop (length x) out)))
+written-as (plan.refusedPlan k d) n out after e f = let z : _≡_ {A = ℕ} 0 1 = cc in absurd (omega arith)
+
+pub written : (rows : List Row) (payload out : List ℕ) (n : ℕ) (after : List ℕ) → Writes rows payload out (Written n) after
+    → plan.write (asPlan rows) payload (length out) ≡ plan.image (take n after)
+written rows payload out n after u = written-as (plan.write (asPlan rows) payload (length out)) n out after (u .answer) (u .leaves)
+
+-- rows are their plan
+pub same-rows : (rs qs : List Row) → asPlan rs ≡ asPlan qs → rs ≡ qs
+unfolding asPlan
+same-rows [] [] e = refl
+same-rows [] (q ∷ qs) e = let z : _≡_ {A = ℕ} 0 1 = cc in absurd (omega arith)
+same-rows (r ∷ rs) [] e = let z : _≡_ {A = ℕ} 0 1 = cc in absurd (omega arith)
+same-rows (r ∷ rs) (q ∷ qs) e =
+    let f : asRow r ≡ asRow q = cc in
+    let g : asPlan rs ≡ asPlan qs = cc in
+    let s : r ≡ q = ap (λ (p : plan.Row). record { kind = p .kind; flags = p .flags; words = p .words }) f in
+    ap₂ (λ (p : Row) (ps : List Row). p ∷ ps) s (same-rows rs qs g)
+
+-- ---- mend mended
+
+pub mended : (x : List ℕ) (m : Mending) (y : List ℕ) → MendsTo x (Mended m) y → paper.mend x ≡ paper.mended y (asScan (m .report)) (m .stored) (m .whole)
+mended x m y u = sym (u .answer)
+
+-- an answer that is known leaves known bytes
+pub mends-to : (x : List ℕ) (r : MendResult) (y : List ℕ) (o : paper.Mending) → MendsTo x r y → paper.mend x ≡ o → (y ≡ leftBy o x) × (asMended r y ≡ o)
+mends-to x r y o u e = (u .leaves ∙ ap (λ (m : paper.Mending). leftBy m x) e, u .answer ∙ e)
+
+refused-as : (o : paper.Mending) (k d : ℕ) (x : List ℕ) → paper.refusedMend k d ≡ o → leftBy o x ≡ x
+refused-as (paper.refusedMend k′ d′) k d x e = refl
+refused-as (paper.mended z r n w) k d x e = let f : _≡_ {A = ℕ} 0 1 = cc in absurd (omega arith)
+
+pub mend-refused : (x : List ℕ) (r : Refusal) (y : List ℕ) → MendsTo x (Refused r) y → y ≡ x
+mend-refused x r y u = u .leaves ∙ refused-as (paper.mend x) (numberOf r) (detailOf r) x (u .answer)
+
+plan-as : (w : plan.Written) (k d : ℕ) (out : List ℕ) → refused k d ≡ answerOf w → bytesAfter w out ≡ out
+plan-as (plan.refusedPlan k′ d′) k d out e = refl
+plan-as (plan.image x) k d out e = let f : _≡_ {A = ℕ} 0 1 = cc in absurd (omega arith)
+
+pub plan-refused : (rows : List Row) (payload out : List ℕ) (r : Refusal) (after : List ℕ) → Writes rows payload out (write.Refused r) after → after ≡ out
+plan-refused rows payload out r after u = u .leaves ∙ plan-as (plan.write (asPlan rows) payload (length out)) (numberOf r) (detailOf r) out (u .answer)

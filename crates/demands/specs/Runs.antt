@@ -1,0 +1,22 @@
+-- A run of a function, as its promise tells it: what it was lent, its answer, and what it left. (FORMAT 9, 10)
+use mathlib.Core.Path.{_≡_}
+use mathlib.Core.List.{List}
+use Prim.Native.Nat.{ℕ}
+use lib.ListN.{length}
+use Rattle.paper.specs.Mend.{mend}
+use Rattle.paper.specs.Writer.{write}
+use Rattle.writer.specs.Answers.{asPlan, asWritten, answerOf, bytesAfter}
+use Rattle.writer.specs.declared.plan.Row.{Row}
+use Rattle.writer.specs.declared.room.WriteResult.{WriteResult}
+use Rattle.repair.specs.Answers.{asMended, leftBy}
+use Rattle.repair.specs.declared.mending.MendResult.{MendResult}
+
+-- writer::write of these rows and this payload into `out`: it answered r and left `after`
+pub record Writes (rows : List Row) (payload out : List ℕ) (r : WriteResult) (after : List ℕ) : Type 0 where
+  pub answer : asWritten r ≡ answerOf (write (asPlan rows) payload (length out))
+  pub leaves : after ≡ bytesAfter (write (asPlan rows) payload (length out)) out
+
+-- repair::mend of x: it answered r and left y
+pub record MendsTo (x : List ℕ) (r : MendResult) (y : List ℕ) : Type 0 where
+  pub answer : asMended r y ≡ mend x
+  pub leaves : y ≡ leftBy (mend x) x

@@ -1,0 +1,21 @@
+-- What kw_write gives back in numbers. (FORMAT 2, 9)
+use mathlib.Core.List.{List, [], _∷_}
+use Prim.Native.Nat.{ℕ}
+use Rattle.paper.specs.Writer as paper
+use Rattle.writer.specs.Answers.{Answer, wrote, refused, answerOf}
+
+-- 0, or the refusal's number
+abbrev pub numberIn : Answer → ℕ
+numberIn (wrote n) = 0
+numberIn (refused n d) = n
+
+-- the image's length, or the refusal's detail
+abbrev pub answerIn : Answer → List ℕ
+answerIn (wrote n) = n ∷ []
+answerIn (refused n d) = d ∷ []
+
+abbrev pub writeNumber : paper.Written → ℕ
+writeNumber w = numberIn (answerOf w)
+
+abbrev pub writeAnswer : paper.Written → List ℕ
+writeAnswer w = answerIn (answerOf w)

@@ -1,0 +1,61 @@
+// Scans, and scrub: {1, words, corrected, uncorrectable}, or zeros for nothing.
+ghost use mathlib.Core.Path.{_≡_};
+ghost use Rattle.paper.specs.Scan.{scanRegion, scanIn};
+ghost use Rattle.paper.specs.Scrub as paper;
+ghost use Rattle.scan.specs.Answers.{asScan};
+ghost use Rattle.kw_test.specs.Reader.{scanNumbers, entryWith};
+use super::reader::header_of;
+use layout::Region;
+use scan::Scan;
+
+fn scan_numbers(scan: Scan) -> [u64; 4]
+    ensures { λ r. ⌜ r ≡ scanNumbers (asScan scan) ⌝ }
+{
+    match scan {
+        Scan::Report(r) => [
+            1,
+            r.words as u64,
+            r.corrected as u64,
+            r.uncorrectable as u64,
+        ],
+        Scan::Nothing => [0, 0, 0, 0],
+    }
+}
+
+#[no_mangle]
+pub extern "C" fn kwt_verify_region(
+    bytes: &[u8],
+    count: u16,
+    kind: u16,
+    flags: u16,
+    word_offset: u32,
+    word_length: u32,
+    covers: u16,
+    answer: &mut [u64; 4],
+)
+    ensures { λ _. ⌜ now (answer .exit) ≡ scanNumbers (scanRegion count (now (bytes .entry)) (entryWith kind flags «word_offset» «word_length» covers)) ⌝ }
+{
+    let region = Region {
+        kind,
+        flags,
+        word_offset,
+        word_length,
+        covers,
+    };
+    *answer = scan_numbers(scan::verify_region(bytes, header_of(count), region));
+}
+
+#[no_mangle]
+pub extern "C" fn kwt_verify_all(bytes: &[u8], count: u16, answer: &mut [u64; 4])
+    ensures { λ _. ⌜ now (answer .exit) ≡ scanNumbers (scanIn count (now (bytes .entry))) ⌝ }
+{
+    *answer = scan_numbers(scan::verify_all(bytes, header_of(count)));
+}
+
+#[no_mangle]
+pub extern "C" fn kwt_scrub(bytes: &mut [u8], answer: &mut [u64; 4])
+    ensures is { λ _. ⌜ now (answer .exit) ≡ scanNumbers (paper.scrub (now (bytes .entry)) .report) ⌝ }
+    ensures leaves { λ _. ⌜ now (bytes .exit) ≡ paper.scrub (now (bytes .entry)) .image ⌝ }
+{
+    *answer = scan_numbers(repair::scrub(bytes));
+}

@@ -1,0 +1,43 @@
+-- The image's parts as the code puts them, and their lengths. Assumes nothing.
+use mathlib.Core.Path.{_≡_, ap, ap₂, _∙_}
+use mathlib.Core.List.{List, _++_}
+use Prim.Native.Nat.{ℕ, _+_, _*_}
+use native.Mathlib.Omega.{arith}
+use lib.ListN.{length, length-append}
+use Rattle.paper.specs.Bytes.{thrice}
+use Rattle.paper.specs.Writer.{Row, rowEntries, planeEntries, rowWords, regions, planDirectory, entriesBytes, prologueBytes, planesBytes, imageOf, imageLength}
+use Rattle.paper.proofs.BytesLaw.{length-thrice}
+use Rattle.laws.proofs.ImageLaw.{length-entriesBytes, length-directory, length-prologueBytes}
+use Rattle.laws.proofs.PlanPairs.{length-planes}
+
+-- one copy of the directory, of n regions, the rows' words together w
+abbrev pub copyOf : ℕ → ℕ → List Row → List ℕ
+copyOf n w rs = entriesBytes (rowEntries (6 + 6 * n) rs ++ planeEntries (6 + 6 * n + w) rs)
+
+pub copy-is : (n w : ℕ) (rs : List Row) → n ≡ regions rs → w ≡ rowWords rs → copyOf n w rs ≡ entriesBytes (planDirectory rs)
+unfolding planDirectory
+copy-is n w rs e f = ap₂ (λ (m v : ℕ). copyOf m v rs) e f
+
+pub copy-length : (rs : List Row) → length (entriesBytes (planDirectory rs)) ≡ 16 * regions rs
+copy-length rs = length-entriesBytes (planDirectory rs) ∙ ap (λ (m : ℕ). 16 * m) (length-directory rs)
+
+pub prologues-length : (n : ℕ) → length (thrice (prologueBytes n)) ≡ 48
+prologues-length n = length-thrice (prologueBytes n) 16 (length-prologueBytes n)
+
+pub copies-length : (rs : List Row) → length (thrice (entriesBytes (planDirectory rs))) ≡ 48 * regions rs
+copies-length rs = length-thrice (entriesBytes (planDirectory rs)) (16 * regions rs) (copy-length rs) ∙ omega arith
+
+pub image-length : (rs : List Row) (payload : List ℕ) → length payload ≡ 8 * rowWords rs → length (imageOf rs payload) ≡ imageLength rs
+unfolding imageOf imageLength
+image-length rs payload e =
+    let c = thrice (entriesBytes (planDirectory rs)) in
+    let q = planesBytes rs payload in
+    omega (
+      arith,
+      length-append (thrice (prologueBytes (regions rs))) (c ++ (payload ++ q)),
+      length-append c (payload ++ q),
+      length-append payload q,
+      prologues-length (regions rs),
+      copies-length rs,
+      length-planes rs payload,
+    )

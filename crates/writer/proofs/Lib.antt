@@ -1,0 +1,14 @@
+pub mod AnswerLaw
+pub mod ChecksLaw
+pub mod EntriesLaw
+pub mod ImageLaw
+pub mod JudgeLaw
+pub mod Laid
+pub mod LoopLaw
+pub mod MarksLaw
+pub mod OneAnswer
+pub mod PutLaw
+pub mod RowsLaw
+pub mod RunLaw
+pub mod TakenLaw
+pub mod WriteLaw

@@ -1,0 +1,31 @@
+-- A run over rows, one row at a time: what a loop over the rows needs, and all that its walk knows of the work. Assumes nothing.
+use mathlib.Core.Path.{_≡_, sym, ap, _∙_}
+use mathlib.Core.List.{List}
+use Prim.Native.Nat.{ℕ, suc, _+_, _≤_, _<_}
+use native.Mathlib.Numerals.{add-one}
+use lib.ListN.{length, getD, drop, drop-of-length-le}
+use lib.Seq.{drop-cons}
+use Rattle.writer.specs.declared.plan.Row.{Row}
+use Rattle.writer.specs.declared.plan.Checked.{Checked}
+use Rattle.writer.specs.Taken.{takeRow, takePlan, takeRows}
+
+-- what stands past the end
+abbrev pub noRow : Row
+noRow = record { kind = 0; flags = 0; words = 0 }
+
+abbrev pub rowAt : List Row → ℕ → Row
+rowAt rows i = getD rows i noRow
+
+-- one row further
+pub further : (ys : List Row) (i : ℕ) (st r : Checked) (zs ws : List ℕ) → i < length ys → r ≡ takeRow zs st i (rowAt ys i) → ws ≡ takePlan zs st i (rowAt ys i)
+    → takeRows (i + 1) (drop (i + 1) ys) (r, ws) ≡ takeRows i (drop i ys) (st, zs)
+unfolding takeRows
+further ys i st r zs ws l e f =
+    ap (λ (k : ℕ). takeRows k (drop k ys) (r, ws)) (add-one i)
+    ∙ (λ j. takeRows (suc i) (drop (suc i) ys) (e j, f j))
+    ∙ sym (ap (λ (rs : List Row). takeRows i rs (st, zs)) (drop-cons ys i noRow l))
+
+-- no row is left
+pub over : (ys : List Row) (i : ℕ) (a : Checked × List ℕ) → length ys ≤ i → takeRows i (drop i ys) a ≡ a
+unfolding takeRows
+over ys i a l = ap (λ (rs : List Row). takeRows i rs a) (drop-of-length-le ys l)

@@ -1,0 +1,68 @@
+-- The rows from i on, one row at a time: what a loop over them needs. Assumes nothing.
+use mathlib.Core.Path.{_≡_, refl, sym, ap, _∙_}
+use mathlib.Core.Bool.{Bool, true, false, cond}
+use mathlib.Core.List.{List, [], _∷_, _++_}
+use Prim.Native.Nat.{ℕ, suc, _+_, _*_, _≤_, _<_}
+use native.Mathlib.Numerals.{add-one}
+use lib.ListN.{length, getD, drop, drop-of-length-le}
+use lib.Seq.{drop-cons}
+use Rattle.paper.specs.Writer.{Row, flagged, planeWords, rowEntries, planeEntry, planeEntries, rowWords, planesWords, entryBytes, entriesBytes, planeBytes, planesBytes}
+use Rattle.writer.specs.Kept.{wordsIn, rowOf, rowEntry, rowsOf}
+
+pub length-rowsOf : (xs : List ℕ) → length (rowsOf xs) ≡ length xs
+unfolding rowsOf
+length-rowsOf [] = refl
+length-rowsOf (x ∷ xs) = ap suc (length-rowsOf xs)
+
+module _ (xs : List ℕ) (i : ℕ) where
+  abbrev x : ℕ
+  x = getD xs i 0
+
+  abbrev rest : List Row
+  rest = rowsOf (drop (i + 1) xs)
+
+  pub rows-end : length xs ≤ i → rowsOf (drop i xs) ≡ []
+  unfolding rowsOf
+  rows-end l = ap rowsOf (drop-of-length-le xs l)
+
+  module _ (l : i < length xs) where
+    pub rows-next : rowsOf (drop i xs) ≡ rowOf x ∷ rest
+    unfolding rowsOf
+    rows-next = ap rowsOf (drop-cons xs i 0 l) ∙ ap (λ (k : ℕ). rowOf x ∷ rowsOf (drop k xs)) (sym (add-one i))
+
+    pub words-next : rowWords (rowsOf (drop i xs)) ≡ wordsIn x + rowWords rest
+    unfolding rowWords
+    words-next = ap rowWords rows-next
+
+    pub planes-next : planesWords (rowsOf (drop i xs)) ≡ cond (flagged (rowOf x)) (planeWords (rowOf x)) 0 + planesWords rest
+    unfolding planesWords
+    planes-next = ap planesWords rows-next
+
+    pub entries-next : (a : ℕ) → entriesBytes (rowEntries a (rowsOf (drop i xs))) ≡ entryBytes (rowEntry a (rowOf x)) ++ entriesBytes (rowEntries (a + wordsIn x) rest)
+    unfolding entriesBytes rowEntries
+    entries-next a = ap (λ (rs : List Row). entriesBytes (rowEntries a rs)) rows-next
+
+    pub plane-next : (a : ℕ) → flagged (rowOf x) ≡ true
+        → entriesBytes (planeEntries a (rowsOf (drop i xs))) ≡ entryBytes (planeEntry a (rowOf x)) ++ entriesBytes (planeEntries (a + planeWords (rowOf x)) rest)
+    unfolding entriesBytes planeEntries
+    plane-next a e =
+        ap (λ (rs : List Row). entriesBytes (planeEntries a rs)) rows-next
+        ∙ ap (λ (t : Bool). entriesBytes (cond t (planeEntry a (rowOf x) ∷ planeEntries (a + planeWords (rowOf x)) rest) (planeEntries a rest))) e
+
+    pub plane-none : (a : ℕ) → flagged (rowOf x) ≡ false → entriesBytes (planeEntries a (rowsOf (drop i xs))) ≡ entriesBytes (planeEntries a rest)
+    unfolding entriesBytes planeEntries
+    plane-none a e =
+        ap (λ (rs : List Row). entriesBytes (planeEntries a rs)) rows-next
+        ∙ ap (λ (t : Bool). entriesBytes (cond t (planeEntry a (rowOf x) ∷ planeEntries (a + planeWords (rowOf x)) rest) (planeEntries a rest))) e
+
+    pub checks-next : (b : List ℕ) → flagged (rowOf x) ≡ true → planesBytes (rowsOf (drop i xs)) b ≡ planeBytes (rowOf x) b ++ planesBytes rest (drop (8 * wordsIn x) b)
+    unfolding planesBytes
+    checks-next b e =
+        ap (λ (rs : List Row). planesBytes rs b) rows-next
+        ∙ ap (λ (t : Bool). cond t (planeBytes (rowOf x) b) [] ++ planesBytes rest (drop (8 * wordsIn x) b)) e
+
+    pub checks-none : (b : List ℕ) → flagged (rowOf x) ≡ false → planesBytes (rowsOf (drop i xs)) b ≡ planesBytes rest (drop (8 * wordsIn x) b)
+    unfolding planesBytes
+    checks-none b e =
+        ap (λ (rs : List Row). planesBytes rs b) rows-next
+        ∙ ap (λ (t : Bool). cond t (planeBytes (rowOf x) b) [] ++ planesBytes rest (drop (8 * wordsIn x) b)) e

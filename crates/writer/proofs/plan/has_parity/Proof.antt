@@ -1,0 +1,10 @@
+-- `writer::plan::has_parity` meets its contract. Assumes nothing.
+use Rattle.layout.proofs.FlagLaw.{flag}
+use Rattle.writer.proofs.plan.has_parity.Statement.{statement}
+use Rattle.writer.proofs.plan.has_parity.Tie as tie
+
+returns : tie.Need-returns
+returns c = flag 1 (c .args .flags)
+
+pub has-parity-spec : {M : Type 1} → statement M
+has-parity-spec = tie.close (tie.spec returns)

@@ -1,0 +1,47 @@
+-- The rows and the answer as the paper has them, and what the lent output holds afterwards. (FORMAT 9)
+use mathlib.Core.Path.{_≡_}
+use mathlib.Core.List.{List, [], _∷_}
+use Prim.Native.Nat.{ℕ}
+use lib.ListN.{length}
+use Rattle.laws.specs.Steps.{over}
+use Rattle.paper.specs.Refusals.{Verdict, fine, refuse}
+use Rattle.paper.specs.Writer as paper
+use Rattle.error.specs.Refused.{numberOf, detailOf}
+use Rattle.writer.specs.declared.plan.Row.{Row}
+use Rattle.writer.specs.declared.room.WriteResult.{WriteResult}
+use Rattle.writer.specs.declared.room.WriteResult.the-variants.{Written, Refused}
+
+abbrev pub asRow : Row → paper.Row
+asRow r = record { kind = r .kind; flags = r .flags; words = r .words }
+
+unfoldable pub asPlan : List Row → List paper.Row
+asPlan [] = []
+asPlan (r ∷ rs) = asRow r ∷ asPlan rs
+
+-- an image's length, or a refusal
+pub data Answer : Type 0 where
+  wrote : ℕ → Answer
+  refused : ℕ → ℕ → Answer
+
+abbrev pub asWritten : WriteResult → Answer
+asWritten (Written n) = wrote n
+asWritten (Refused r) = refused (numberOf r) (detailOf r)
+
+abbrev pub answerOf : paper.Written → Answer
+answerOf (paper.image x) = wrote (length x)
+answerOf (paper.refusedPlan n d) = refused n d
+
+-- the image over the front of the output, or every byte as it was
+abbrev pub bytesAfter : paper.Written → List ℕ → List ℕ
+bytesAfter (paper.image x) out = over x out
+bytesAfter (paper.refusedPlan n d) out = out
+
+-- a verdict and the length that an accepted plan's image has
+abbrev pub judged : Verdict → ℕ → Answer
+judged fine n = wrote n
+judged (refuse n d) k = refused n d
+
+-- what a run says, of a plan with this verdict: its answer, and every byte of the output
+pub record Answered (v : Verdict) (rs : List paper.Row) (payload before : List ℕ) (r : WriteResult) (after : List ℕ) : Type 0 where
+  pub answer : asWritten r ≡ answerOf (paper.writeAs v (paper.imageOf rs payload))
+  pub bytes : after ≡ bytesAfter (paper.writeAs v (paper.imageOf rs payload)) before

@@ -1,0 +1,4 @@
+pub mod Answers
+pub mod Kept
+pub mod Put
+pub mod Taken

@@ -1,0 +1,139 @@
+// A plan's rows, checked one by one and kept as numbers. (FORMAT 9)
+ghost use mathlib.Core.Path.{_≡_};
+ghost use Prim.Native.Nat.{_%_, _^_};
+ghost use lib.ListN.{replicate};
+ghost use Rattle.paper.specs.Layout.{hasParity};
+ghost use Rattle.paper.specs.Writer.{flagged, planeWords};
+ghost use Rattle.writer.specs.Kept.{kindIn, flagsIn, wordsIn, rowOf};
+ghost use Rattle.writer.specs.Taken.{badRow, marked, withMark, withRow, packedRow, regionsOf, takeRow, takePlan};
+use error::Refusal;
+use layout::FLAG_ECC_PRESENT;
+
+#[repr(C)]
+pub struct Row {
+    pub kind: u16,
+    pub flags: u16,
+    pub words: u32,
+}
+
+// What the rows so far say: the number of their regions, or the first refusal.
+pub(crate) enum Checked {
+    Fine(usize),
+    Refused(Refusal),
+}
+
+// What is kept of the rows: a bit for each kind that was seen, and after those 512 words the first 1024 rows, a number each.
+// So a kind is looked up at once, also in a plan of more rows than an image can have, and the rest of the writer needs no `&[Row]`.
+pub(crate) fn no_rows() -> [u64; 1536]
+    ensures { λ r. ⌜ r ≡ replicate 1536 0 ⌝ }
+{
+    [0u64; 1536]
+}
+
+// One more row, the i-th: its checks in their order, then its mark, and the row itself if it is among the first 1024.
+pub(crate) fn take_row(plan: &mut [u64; 1536], so_far: Checked, i: usize, row: Row) -> Checked
+    ensures { λ r. ⌜ (r ≡ takeRow (now (plan .entry)) «so_far» i row) × (now (plan .exit) ≡ takePlan (now (plan .entry)) «so_far» i row) ⌝ }
+{
+    let Checked::Fine(regions) = so_far else {
+        return so_far;
+    };
+    let kind = row.kind;
+    let bad = is_bad(row);
+    let again = is_marked(plan, kind);
+    if bad {
+        return Checked::Refused(Refusal::BadPlan { row: i });
+    }
+    if again {
+        return Checked::Refused(Refusal::DuplicateRegion { kind });
+    }
+    mark(plan, kind);
+    keep(plan, i, row);
+    // A slice has fewer than 2^60 rows, so this never wraps.
+    Checked::Fine(std::num::wrapping_add_usize(regions, regions_of(row.flags)))
+}
+
+// A kind above 0x7FFF, or a flag bit other than 1, 2 and 4.
+fn is_bad(row: Row) -> bool
+    ensures { λ r. ⌜ r ≡ badRow row ⌝ }
+{
+    row.kind > 0x7FFF || row.flags > 7
+}
+
+// Of a kind above 0x7FFF, which no row that is fine has, this says nothing of use.
+fn is_marked(plan: &[u64; 1536], kind: u16) -> bool
+    ensures { λ r. ⌜ r ≡ marked (now (plan .entry)) kind ⌝ }
+{
+    plan[(kind / 64) as usize] & bit_of(kind) != 0
+}
+
+fn mark(plan: &mut [u64; 1536], kind: u16)
+    ensures { λ _. ⌜ now (plan .exit) ≡ withMark (now (plan .entry)) kind ⌝ }
+{
+    let at = (kind / 64) as usize;
+    plan[at] = plan[at] | bit_of(kind);
+}
+
+fn bit_of(kind: u16) -> u64
+    ensures { λ r. ⌜ r ≡ 2 ^ (kind % 64) ⌝ }
+{
+    1u64 << (kind % 64)
+}
+
+fn keep(plan: &mut [u64; 1536], i: usize, row: Row)
+    ensures { λ _. ⌜ now (plan .exit) ≡ withRow (now (plan .entry)) i row ⌝ }
+{
+    if i < 1024 {
+        plan[512 + i] = packed(row);
+    }
+}
+
+// A row, and the plane of a row flagged 2.
+fn regions_of(flags: u16) -> usize
+    ensures { λ r. ⌜ r ≡ regionsOf flags ⌝ }
+{
+    if has_parity(flags) { 2 } else { 1 }
+}
+
+// A row as one number.
+fn packed(row: Row) -> u64
+    ensures { λ r. ⌜ r ≡ packedRow row ⌝ }
+{
+    row.kind as u64 + (row.flags as u64) * 65536 + (row.words as u64) * 4_294_967_296
+}
+
+pub(crate) fn kind_of(packed: u64) -> u16
+    ensures { λ r. ⌜ r ≡ kindIn packed ⌝ }
+{
+    (packed % 65536) as u16
+}
+
+pub(crate) fn flags_of(packed: u64) -> u16
+    ensures { λ r. ⌜ r ≡ flagsIn packed ⌝ }
+{
+    (packed / 65536 % 65536) as u16
+}
+
+pub(crate) fn words_of(packed: u64) -> u32
+    ensures { λ r. ⌜ r ≡ wordsIn packed ⌝ }
+{
+    (packed / 4_294_967_296) as u32
+}
+
+pub(crate) fn is_protected(packed: u64) -> bool
+    ensures { λ r. ⌜ r ≡ flagged (rowOf packed) ⌝ }
+{
+    has_parity(flags_of(packed))
+}
+
+fn has_parity(flags: u16) -> bool
+    ensures { λ r. ⌜ r ≡ hasParity flags ⌝ }
+{
+    flags & FLAG_ECC_PRESENT != 0
+}
+
+// Words of a row's plane.
+pub(crate) fn plane_words(packed: u64) -> usize
+    ensures { λ r. ⌜ r ≡ planeWords (rowOf packed) ⌝ }
+{
+    (words_of(packed) as usize + 7) / 8
+}

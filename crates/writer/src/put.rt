@@ -1,0 +1,113 @@
+// Bytes put into a buffer in address order. Each function starts at a place and gives the place right behind its bytes.
+ghost use Prim.Native.Nat.{_+_, _*_, _≤_};
+ghost use lib.ListN.{length, replicate};
+ghost use Rattle.paper.specs.Bytes.{le};
+ghost use Rattle.paper.specs.Writer.{planeWords, entryBytes, prologueStart, prologueBytes, checks, planeBytes};
+ghost use Rattle.writer.specs.Kept.{wordsIn, rowOf};
+ghost use Rattle.writer.specs.Put.{Put, asEntry};
+use super::plan::plane_words;
+use super::plan::words_of;
+use crc::crc32;
+use ecc::check_byte;
+use layout::BOM;
+use layout::FORMAT_VERSION;
+use layout::MAGIC;
+use layout::Region;
+use scalar::u16_bytes;
+use scalar::u32_bytes;
+use scalar::u64_or_zero;
+
+pub(crate) fn put_bytes(out: &mut [u8], at: usize, bytes: &[u8]) -> usize
+    requires { ⌜ at + length (now bytes) ≤ length (now out) ⌝ }
+    ensures { λ r. ⌜ Put (now (out .entry)) at (now (bytes .entry)) r (now (out .exit)) ⌝ }
+{
+    let mut i: usize = 0;
+    while i < bytes.len() {
+        out[at + i] = bytes[i];
+        i += 1;
+    }
+    at + i
+}
+
+fn put_u16(out: &mut [u8], at: usize, v: u16) -> usize
+    requires { ⌜ at + 2 ≤ length (now out) ⌝ }
+    ensures { λ r. ⌜ Put (now (out .entry)) at (le 2 v) r (now (out .exit)) ⌝ }
+{
+    let bytes = u16_bytes(v);
+    put_bytes(out, at, &bytes)
+}
+
+fn put_u32(out: &mut [u8], at: usize, v: u32) -> usize
+    requires { ⌜ at + 4 ≤ length (now out) ⌝ }
+    ensures { λ r. ⌜ Put (now (out .entry)) at (le 4 v) r (now (out .exit)) ⌝ }
+{
+    let bytes = u32_bytes(v);
+    put_bytes(out, at, &bytes)
+}
+
+fn put_prologue_start(out: &mut [u8], at: usize, regions: u16) -> usize
+    requires { ⌜ at + 12 ≤ length (now out) ⌝ }
+    ensures { λ r. ⌜ Put (now (out .entry)) at (prologueStart regions) r (now (out .exit)) ⌝ }
+{
+    let marker = put_u32(out, at, MAGIC);
+    let version = put_u16(out, marker, BOM);
+    let count = put_u16(out, version, FORMAT_VERSION);
+    let flags = put_u16(out, count, regions);
+    put_u16(out, flags, 0)
+}
+
+pub(crate) fn put_prologue(out: &mut [u8], at: usize, regions: u16) -> usize
+    requires { ⌜ at + 16 ≤ length (now out) ⌝ }
+    ensures { λ r. ⌜ Put (now (out .entry)) at (prologueBytes regions) r (now (out .exit)) ⌝ }
+{
+    let checksum = put_prologue_start(out, at, regions);
+    let crc = crc32(&out[at..checksum]);
+    put_u32(out, checksum, crc)
+}
+
+pub(crate) fn put_entry(out: &mut [u8], at: usize, entry: Region) -> usize
+    requires { ⌜ at + 16 ≤ length (now out) ⌝ }
+    ensures { λ r. ⌜ Put (now (out .entry)) at (entryBytes (asEntry entry)) r (now (out .exit)) ⌝ }
+{
+    let flags = put_u16(out, at, entry.kind);
+    let offset = put_u16(out, flags, entry.flags);
+    let length = put_u32(out, offset, entry.word_offset);
+    let covers = put_u32(out, length, entry.word_length);
+    let reserved = put_u16(out, covers, entry.covers);
+    put_u16(out, reserved, 0)
+}
+
+// The check bytes of the first words of b.
+fn put_checks(out: &mut [u8], at: usize, words: usize, b: &[u8]) -> usize
+    requires { ⌜ (at + words ≤ length (now out)) × (8 * words ≤ length (now b)) ⌝ }
+    ensures { λ r. ⌜ Put (now (out .entry)) at (checks words (now (b .entry))) r (now (out .exit)) ⌝ }
+{
+    let mut w: usize = 0;
+    while w < words {
+        out[at + w] = check_byte(u64_or_zero(b, 8 * w));
+        w += 1;
+    }
+    at + w
+}
+
+fn put_zeros(out: &mut [u8], at: usize, n: usize) -> usize
+    requires { ⌜ at + n ≤ length (now out) ⌝ }
+    ensures { λ r. ⌜ Put (now (out .entry)) at (replicate n 0) r (now (out .exit)) ⌝ }
+{
+    let mut i: usize = 0;
+    while i < n {
+        out[at + i] = 0;
+        i += 1;
+    }
+    at + i
+}
+
+// A plane: the check bytes, and zeros up to a whole word.
+pub(crate) fn put_plane(out: &mut [u8], at: usize, row: u64, b: &[u8]) -> usize
+    requires { ⌜ (at + 8 * planeWords (rowOf row) ≤ length (now out)) × (8 * wordsIn row ≤ length (now b)) ⌝ }
+    ensures { λ r. ⌜ Put (now (out .entry)) at (planeBytes (rowOf row) (now (b .entry))) r (now (out .exit)) ⌝ }
+{
+    let words = words_of(row) as usize;
+    let tail = put_checks(out, at, words, b);
+    put_zeros(out, tail, 8 * plane_words(row) - words)
+}

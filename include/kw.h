@@ -1,0 +1,88 @@
+/* kw: reads, scans and repairs images of the keleusma-wire container (docs/FORMAT.md).
+
+   Every function takes any bytes of any length, and returns. It reads and writes nothing but the image
+   and the answer that it is given, keeps nothing between calls and allocates nothing; the stack that a
+   call takes is named below. Every number of `answer` is written at every call. What each function
+   promises is proved in crates/kw.
+
+   The caller sees to it that `image` points to `len` bytes, and `answer` to as many numbers as stand in
+   its brackets; that the two share no byte and nothing else writes to them during the call; and that
+   neither is NULL, even where `len` is 0. Of a C library the archive needs `memset` alone. */
+#ifndef KW_H
+#define KW_H
+
+#include <stddef.h>
+#include <stdint.h>
+
+#ifdef __cplusplus
+extern "C" {
+#endif
+
+/* What a function returns: 0, or why it refuses. A refusal's detail is in answer[0]; it is 0 where
+   none is named here. A refused image is as it was. */
+enum {
+    KW_OK = 0,
+    KW_TRUNCATED = 1,
+    KW_BAD_MAGIC = 2,
+    KW_FOREIGN_ENDIAN = 3,
+    KW_UNSUPPORTED_VERSION = 4,    /* the version found */
+    KW_BAD_PROLOGUE_CHECKSUM = 5,
+    KW_TOO_MANY_REGIONS = 6,       /* the count found */
+    KW_REGION_OUT_OF_BOUNDS = 7,   /* the entry's index */
+    KW_DUPLICATE_REGION = 8,       /* the kind */
+    KW_BAD_RECORD_STRIDE = 9,
+    KW_OVERFLOW = 10,
+    KW_TOO_LARGE = 11,
+    KW_OVERLAPPING_REGIONS = 12,   /* the entry's index */
+    KW_NO_ROOM = 13,
+    KW_BAD_PLAN = 14               /* the row's index, or the number of rows */
+};
+
+/* A region's flags. */
+enum {
+    KW_FLAG_ENCRYPTED = 1,
+    KW_FLAG_PROTECTED = 2, /* a parity plane covers it */
+    KW_FLAG_OPTIONAL = 4,
+    KW_FLAG_PLANE = 8 /* it is a parity plane */
+};
+
+/* Limits. */
+enum {
+    KW_VERSION = 2,
+    KW_WORD_BYTES = 8,
+    KW_MAX_REGIONS = 1024,
+    KW_MAX_HEADER_BYTES = 49200
+};
+
+/* The header of an image of so many regions. */
+#define KW_HEADER_BYTES(regions) (48u + 48u * (size_t)(regions))
+
+/* The most stack in bytes that a call takes, with its return address and without what `memset` takes.
+   Measured: 2216, 2424 and 2424. */
+enum { KW_PARSE_STACK = 2560, KW_SCAN_STACK = 2816, KW_SCRUB_STACK = 2816 };
+
+/* Checks the header: the vote over its three copies, its fields and checksum, that every region lies
+   in the image and that no kind repeats. Answers {number of regions, 1 if some header copy is damaged
+   and a repair is wanted}, or {detail, 0}. */
+uint32_t kw_parse(const uint8_t *image, size_t len, uint64_t answer[2]);
+
+/* Parses, then decodes every word of every protected region that has a plane, and writes nothing.
+   Answers {1, words, corrected, uncorrectable}; zeros where there is no such region, which says
+   nothing about the image; or {detail, 0, 0, 0} of parse's refusal. */
+uint32_t kw_scan(const uint8_t *image, size_t len, uint64_t answer[4]);
+
+/* Repairs the words that one flipped bit explains, in place, and nothing else: no check byte, no
+   header copy. Always returns 0, and answers {1, words, corrected, uncorrectable}, or zeros: where no
+   word was looked at, where the image doesn't parse, and where a repair in a region that lies on the
+   header spoiled it. In that last case alone the bytes written before stay.
+
+   A repair changes what was checked before. Three flipped bits can pass for one. Parse the image
+   afresh after a repair, and have whatever approved it approve it again, before anything in it is
+   used. */
+uint32_t kw_scrub(uint8_t *image, size_t len, uint64_t answer[4]);
+
+#ifdef __cplusplus
+}
+#endif
+
+#endif

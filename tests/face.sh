@@ -1,0 +1,74 @@
+#!/bin/sh
+# The C face as its users meet it, called by 'make face' with the archive: the example is run on the
+# images of tests/answers/images, which must give tests/firmware.txt, plainly, under valgrind, with the
+# sanitizers, and built against an installed copy; the replay is run under valgrind; the stack that a
+# call takes is measured. The last line is 'face N passed, M failed'; exit status 0 only if M is 0.
+set -u
+library=$1
+work=$(mktemp -d) || exit 2
+trap 'rm -rf "$work"' EXIT
+strict='-std=c11 -Wall -Wextra -Werror'
+memory='valgrind -q --error-exitcode=99 --leak-check=full'
+passed=0
+failed=0
+
+# Runs a case and shows what it printed if it ended badly.
+holds() { # NAME COMMAND...
+    name=$1
+    shift
+    if "$@" >"$work/out" 2>&1; then
+        echo "face: $name"
+        passed=$((passed + 1))
+    else
+        echo "face: $name FAILED"
+        cat "$work/out"
+        failed=$((failed + 1))
+    fi
+}
+
+left_out() { # TOOL
+    ! command -v "$1" >/dev/null && echo "face: no $1 here, its case is left out"
+}
+
+# The example, called by the given words, says of every image what is expected.
+says() { # COMMAND...
+    for image in damaged beyond march unprotected refused; do
+        echo "== $image"
+        "$@" "tests/answers/images/$image.kw" 2>&1
+        echo "status $?"
+    done >"$work/said"
+    diff tests/firmware.txt "$work/said"
+}
+
+sanitized() {
+    gcc $strict -g -fsanitize=address,undefined -fno-sanitize-recover -Iinclude \
+        host/example/firmware.c "$library" -o "$work/sanitized" && says "$work/sanitized"
+}
+
+# Built with what pkg-config says of the installed copy, and with nothing of this folder.
+installed() {
+    make install DESTDIR="$work/dest" PREFIX=/opt/kw KW_LIB="$library" || return 1
+    flags=$(PKG_CONFIG_PATH=$work/dest/opt/kw/lib/pkgconfig PKG_CONFIG_SYSROOT_DIR=$work/dest \
+        pkg-config --cflags --libs kw) || return 1
+    cp host/example/firmware.c "$work/firmware.c"
+    (cd "$work" && gcc $strict firmware.c $flags -o firmware) && says "$work/firmware"
+}
+
+# Firmware may have no C library: the archive asks for memset and nothing else.
+needs_memset_alone() {
+    test "$(nm -u "$library" | sed -n 's/.* U //p' | sort -u)" = memset
+}
+
+holds "the example says what it should" says host/build/firmware
+holds "the same with the sanitizers" sanitized
+left_out g++ || holds "the header is C++ too" g++ -Wall -Wextra -Werror -fsyntax-only -x c++ include/kw.h
+holds "the archive needs memset alone" needs_memset_alone
+holds "no call takes more stack than kw.h says" host/build/stack
+sed 's/^/face:   /' "$work/out"
+left_out pkg-config || holds "the same built against an installed copy" installed
+left_out valgrind || {
+    holds "the same under valgrind" says $memory host/build/firmware
+    holds "the replay under valgrind" $memory host/build/replay tests/answers/*.txt
+}
+echo "face $passed passed, $failed failed"
+[ "$failed" -eq 0 ]
