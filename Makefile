@@ -53,7 +53,7 @@ soak: host/build/compare
 replay: host/build/replay
 	host/build/replay tests/answers/*.txt
 
-face: host/build/firmware host/build/stack host/build/replay
+face: host/build/firmware host/build/make_image host/build/stack host/build/replay
 	sh tests/face.sh $(KW_LIB)
 
 bench: host/build/bench
@@ -96,7 +96,7 @@ WITH_OURS = -C link-arg=$(KW_TEST_LIB) -C link-arg=$(KW_LIB)
 OURS = $(KW_TEST_LIB) $(KW_LIB)
 
 # All built anew each time: it takes a second, and none is left over from another archive or Rust.
-BUILT = $(addprefix host/build/,libchecked.rlib libshipped.rlib compare record bench replay firmware stack)
+BUILT = $(addprefix host/build/,libchecked.rlib libshipped.rlib compare record bench replay firmware make_image stack)
 .PHONY: $(BUILT)
 $(BUILT): | host/build
 
@@ -123,8 +123,8 @@ CC_STRICT = gcc -std=c11 -Wall -Wextra -Werror -Iinclude
 host/build/replay: $(OURS)
 	$(CC_STRICT) -O1 tests/replay.c $(OURS) -o $@
 
-host/build/firmware: $(KW_LIB)
-	$(CC_STRICT) -O2 host/example/firmware.c $(KW_LIB) -o $@
+host/build/firmware host/build/make_image: host/build/%: $(KW_LIB)
+	$(CC_STRICT) -O2 host/example/$*.c $(KW_LIB) -o $@
 
 # The frame pointer says where a caller's frame stands.
 host/build/stack: $(OURS)

@@ -1,4 +1,4 @@
-/* kw: reads, scans and repairs images of the keleusma-wire container (docs/FORMAT.md).
+/* kw: reads, scans, repairs and writes images of the keleusma-wire container (docs/FORMAT.md).
 
    Every function takes any bytes of any length, and returns. It reads and writes nothing but the image
    and the answer that it is given, keeps nothing between calls and allocates nothing; the stack that a
@@ -51,15 +51,22 @@ enum {
     KW_VERSION = 2,
     KW_WORD_BYTES = 8,
     KW_MAX_REGIONS = 1024,
-    KW_MAX_HEADER_BYTES = 49200
+    KW_MAX_HEADER_BYTES = 49200,
+    KW_MAX_IMAGE_BYTES = 8388608 /* that kw_write makes */
 };
 
 /* The header of an image of so many regions. */
 #define KW_HEADER_BYTES(regions) (48u + 48u * (size_t)(regions))
 
 /* The most stack in bytes that a call takes, with its return address and without what `memset` takes.
-   Measured: 2216, 2424 and 2424. */
-enum { KW_PARSE_STACK = 2560, KW_SCAN_STACK = 2816, KW_SCRUB_STACK = 2816 };
+   Measured: 2216, 2248, 2440, 2504 and 12424. */
+enum {
+    KW_PARSE_STACK = 2560,
+    KW_SCAN_STACK = 2816,
+    KW_SCRUB_STACK = 2816,
+    KW_MEND_STACK = 2816,
+    KW_WRITE_STACK = 13312
+};
 
 /* Checks the header: the vote over its three copies, its fields and checksum, that every region lies
    in the image and that no kind repeats. Answers {number of regions, 1 if some header copy is damaged
@@ -80,6 +87,32 @@ uint32_t kw_scan(const uint8_t *image, size_t len, uint64_t answer[4]);
    afresh after a repair, and have whatever approved it approve it again, before anything in it is
    used. */
 uint32_t kw_scrub(uint8_t *image, size_t len, uint64_t answer[4]);
+
+/* Refuses as parse does, then with KW_OVERLAPPING_REGIONS where a region that isn't empty starts inside
+   the header or shares a byte with an earlier one. Otherwise makes all header copies what most of them
+   say, repairs the words that one flipped bit explains and their check bytes, and changes nothing else:
+   a word beyond repair keeps its data and its check byte. Answers {1, words, corrected, uncorrectable,
+   stored, whole}, the first four 0 where scan answers zeros; or {detail, 0, 0, 0, 0, 0}. `stored` is the
+   number of bytes that changed; `whole` is 1 exactly if answer[0] is 1 and no word is uncorrectable, and
+   says nothing about regions without a plane.
+
+   What was said of scrub's repairs holds here too: parse afresh, and have the image approved again. */
+uint32_t kw_mend(uint8_t *image, size_t len, uint64_t answer[6]);
+
+/* A row of a plan: the kind of a region, at most 0x7FFF; its flags, of KW_FLAG_ENCRYPTED,
+   KW_FLAG_PROTECTED and KW_FLAG_OPTIONAL; its length in words. */
+typedef struct {
+    uint16_t kind, flags;
+    uint32_t words;
+} kw_row;
+
+/* Writes the image of a plan to the front of `out`: header, then the rows' words out of the payload in
+   order, then a parity plane for each protected row, in row order. Answers {the image's length}; what
+   lies behind it in `out` is as it was. Or refuses: KW_BAD_PLAN (a row's kind or flags, or a payload
+   that is not 8 x the sum of words), KW_DUPLICATE_REGION, KW_TOO_MANY_REGIONS (rows and planes),
+   KW_TOO_LARGE, KW_NO_ROOM. It then answers {detail}, and no byte of `out` is changed. */
+uint32_t kw_write(const kw_row *rows, size_t rows_len, const uint8_t *payload, size_t payload_len,
+                  uint8_t *out, size_t out_len, uint64_t answer[1]);
 
 #ifdef __cplusplus
 }

@@ -59,7 +59,15 @@ needs_memset_alone() {
     test "$(nm -u "$library" | sed -n 's/.* U //p' | sort -u)" = memset
 }
 
+# What the writer makes, the reader loads as it is.
+written() { # COMMAND...
+    "$@" >"$work/image" && host/build/firmware "$work/image" >"$work/loaded" || return 1
+    cat "$work/loaded"
+    grep -qx 'mend: 0 bytes stored, whole' "$work/loaded"
+}
+
 holds "the example says what it should" says host/build/firmware
+holds "a written image is loaded" written host/build/make_image
 holds "the same with the sanitizers" sanitized
 left_out g++ || holds "the header is C++ too" g++ -Wall -Wextra -Werror -fsyntax-only -x c++ include/kw.h
 holds "the archive needs memset alone" needs_memset_alone
@@ -68,6 +76,7 @@ sed 's/^/face:   /' "$work/out"
 left_out pkg-config || holds "the same built against an installed copy" installed
 left_out valgrind || {
     holds "the same under valgrind" says $memory host/build/firmware
+    holds "a written image under valgrind" written $memory host/build/make_image
     holds "the replay under valgrind" $memory host/build/replay tests/answers/*.txt
 }
 echo "face $passed passed, $failed failed"

@@ -8,6 +8,7 @@ mod c {
         pub fn kw_parse(image: *const u8, len: usize, answer: *mut u64) -> u32;
         pub fn kw_scan(image: *const u8, len: usize, answer: *mut u64) -> u32;
         pub fn kw_scrub(image: *mut u8, len: usize, answer: *mut u64) -> u32;
+        pub fn kw_mend(image: *mut u8, len: usize, answer: *mut u64) -> u32;
     }
 }
 
@@ -42,5 +43,21 @@ pub fn scrub_in_place(image: &mut [u8]) -> (u32, [u64; 4]) {
 pub fn scrub(image: &[u8]) -> (u32, [u64; 4], Vec<u8>) {
     let mut left = Guarded::new(image);
     let (number, answer) = scrub_in_place(left.bytes());
+    (number, answer, left.unguarded())
+}
+
+/// Writes to the image itself.
+pub fn mend_in_place(image: &mut [u8]) -> (u32, [u64; 6]) {
+    let mut number = 0;
+    let answer = numbers(|answer| unsafe {
+        number = c::kw_mend(image.as_mut_ptr(), image.len(), answer);
+    });
+    (number, answer)
+}
+
+/// The number, the answer, and the bytes afterwards.
+pub fn mend(image: &[u8]) -> (u32, [u64; 6], Vec<u8>) {
+    let mut left = Guarded::new(image);
+    let (number, answer) = mend_in_place(left.bytes());
     (number, answer, left.unguarded())
 }

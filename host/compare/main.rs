@@ -14,8 +14,9 @@ mod ffi_reader;
 mod images;
 mod inputs;
 mod layout;
+mod mend;
+mod mending;
 mod paper;
-#[allow(dead_code)]
 mod plan;
 mod scalar;
 mod scan;
@@ -23,7 +24,6 @@ mod scrub;
 mod tables;
 mod tally;
 mod view;
-#[allow(dead_code)] // it is called below as soon as libkw.a has kw_write
 mod writer;
 
 use inputs::Random;
@@ -52,7 +52,8 @@ fn main() -> ExitCode {
     tables::compare(&mut run);
     scan::compare(&mut run);
     scrub::compare(&mut run);
-    // writer::compare(&mut run);
+    mend::compare(&mut run);
+    writer::compare(&mut run);
     if run.tally.finish() {
         ExitCode::SUCCESS
     } else {

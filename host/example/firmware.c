@@ -1,10 +1,10 @@
-/* What firmware does with an image: parse it, scan it, repair it, parse it afresh.
+/* What firmware does with an image: parse it, scan it, mend it, parse it afresh.
 
    usage: firmware FILE
 
-   Prints what each call says; the file itself is never written. Exit status 0 if the repaired image
-   parses and none of its protected words is beyond repair. Whether it may be loaded is then for
-   whatever approved the image to say, over the repaired bytes. */
+   Prints what each call says, and `load` if the mended image parses and mend called it whole; the file
+   itself is never written. Exit status 0 if it says so. In firmware, whatever approved the image would
+   have a say before that, over the mended bytes. */
 #include <inttypes.h>
 #include <stdio.h>
 #include <stdlib.h>
@@ -20,8 +20,14 @@ static const char *reason(uint32_t number) {
     case KW_TOO_MANY_REGIONS: return "too many regions";
     case KW_REGION_OUT_OF_BOUNDS: return "region out of bounds";
     case KW_DUPLICATE_REGION: return "duplicate region";
-    default: return "no refusal of parse";
+    case KW_OVERLAPPING_REGIONS: return "overlapping regions";
+    default: return "no refusal of parse or mend";
     }
+}
+
+static void refused(const char *call, uint32_t number, uint64_t detail) {
+    printf("%s: refused, %s (%" PRIu32 "), detail %" PRIu64 "\n", call, reason(number), number,
+           detail);
 }
 
 /* 1 if the image is accepted. */
@@ -29,8 +35,7 @@ static int parse(const uint8_t *image, size_t len) {
     uint64_t answer[2];
     uint32_t number = kw_parse(image, len, answer);
     if (number != KW_OK) {
-        printf("parse: refused, %s (%" PRIu32 "), detail %" PRIu64 "\n", reason(number), number,
-               answer[0]);
+        refused("parse", number, answer[0]);
         return 0;
     }
     printf("parse: %" PRIu64 " regions, header copies %s\n", answer[0],
@@ -38,27 +43,39 @@ static int parse(const uint8_t *image, size_t len) {
     return 1;
 }
 
-/* Prints a report; 1 if there is one and no word is beyond repair. */
-static int report(const char *call, const uint64_t answer[4]) {
-    if (answer[0] == 0) {
+/* Prints a report, or that there is none. */
+static void report(const char *call, const uint64_t answer[4]) {
+    if (answer[0] == 0)
         printf("%s: nothing\n", call);
-        return 0;
-    }
-    printf("%s: %" PRIu64 " words, %" PRIu64 " corrected, %" PRIu64 " uncorrectable\n", call,
-           answer[1], answer[2], answer[3]);
-    return answer[3] == 0;
+    else
+        printf("%s: %" PRIu64 " words, %" PRIu64 " corrected, %" PRIu64 " uncorrectable\n", call,
+               answer[1], answer[2], answer[3]);
 }
 
-/* Says what becomes of the image; 1 if it is sound afterwards. */
+/* 1 if the image is whole. */
+static int mend(uint8_t *image, size_t len) {
+    uint64_t answer[6];
+    uint32_t number = kw_mend(image, len, answer);
+    if (number != KW_OK) {
+        refused("mend", number, answer[0]);
+        return 0;
+    }
+    report("mend", answer);
+    printf("mend: %" PRIu64 " bytes stored, %s\n", answer[4], answer[5] != 0 ? "whole" : "not whole");
+    return answer[5] != 0;
+}
+
+/* Says what becomes of the image; 1 if it may be loaded. */
 static int check(uint8_t *image, size_t len) {
     uint64_t answer[4];
     if (!parse(image, len)) return 0;
     kw_scan(image, len, answer);
     report("scan", answer);
-    kw_scrub(image, len, answer);
-    int sound = report("scrub", answer);
-    /* the repair wrote to the image: what was checked before is checked again */
-    return parse(image, len) && sound;
+    if (!mend(image, len)) return 0;
+    /* mend wrote to the image: what was checked before is checked again */
+    if (!parse(image, len)) return 0;
+    printf("load\n");
+    return 1;
 }
 
 /* Reads a file into memory that is exactly as long; NULL if it can't. */

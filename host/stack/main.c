@@ -15,7 +15,7 @@ enum { ROWS = 512, WORDS = 3, STACK = 1 << 18 };
 enum { REGIONS = 2 * ROWS, FIRST = 6 + 6 * REGIONS, LEN = 8 * (FIRST + ROWS * (WORDS + 1)) };
 
 static uint8_t image[LEN], stack[STACK] __attribute__((aligned(4096)));
-static uint64_t answer[4];
+static uint64_t answer[6];
 static size_t len;
 
 static void put(size_t at, uint64_t value, size_t width) {
@@ -65,6 +65,21 @@ static uint8_t *caller;
 CALL(parse)
 CALL(scan)
 CALL(scrub)
+CALL(mend)
+
+/* The plan of that image, and what it takes. */
+static kw_row rows[ROWS];
+static uint8_t payload[8 * WORDS * ROWS], out[LEN];
+
+static void call_write(void) {
+    caller = __builtin_frame_address(0);
+    kw_write(rows, ROWS, payload, sizeof payload, out, len, answer);
+}
+
+static void make_plan(void) {
+    for (size_t row = 0; row < ROWS; row++)
+        rows[row] = (kw_row){(uint16_t)row, KW_FLAG_PROTECTED, WORDS};
+}
 
 static void *run(void *call) {
     void (*function)(void);
@@ -105,5 +120,8 @@ int main(void) {
     int good = measure("kw_parse", call_parse, KW_PARSE_STACK);
     good &= measure("kw_scan", call_scan, KW_SCAN_STACK);
     good &= measure("kw_scrub", call_scrub, KW_SCRUB_STACK);
+    good &= measure("kw_mend", call_mend, KW_MEND_STACK);
+    make_plan();
+    good &= measure("kw_write", call_write, KW_WRITE_STACK);
     return good ? EXIT_SUCCESS : EXIT_FAILURE;
 }
