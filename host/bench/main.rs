@@ -1,4 +1,6 @@
-//! Times ours beside the Rust's in one run and prints a table: work, ours, the Rust's, ratio, bar.
+//! Times ours beside the Rust's in one run and prints a table: work, ours, the Rust's, ratio, bar. The
+//! Rust has no mend: a second table has it beside our own scan and parse, and in its worst case beside
+//! the Rust's parse.
 //!
 //! Exit status 1 if a ratio is above its bar.
 
@@ -37,7 +39,18 @@ fn main() -> ExitCode {
         scan_image_of_900_000_words(),
         scrub_image_of_900_000_words(),
     ];
-    if rows.iter().all(|&within| within) {
+    println!(
+        "\n{:<32} {:>12} {:>12} {:>9} {:>6}",
+        "mend; beside it", "mend", "the other", "ratio", "bar"
+    );
+    let mends = [
+        mend_clean_900_000_words(),
+        mend_900_000_words(),
+        mend_1_024_regions(),
+        lie_apart_1_024_regions(),
+        lie_apart_falling(),
+    ];
+    if rows.iter().chain(&mends).all(|&within| within) {
         ExitCode::SUCCESS
     } else {
         ExitCode::FAILURE
@@ -141,6 +154,89 @@ fn scrub_image_of_900_000_words() -> bool {
     )
 }
 
+fn mend_clean_900_000_words() -> bool {
+    let image = images::planned(&mut Random::new(14), &[(1, 2, 900_000)]);
+    let mut mended = image.clone();
+    row(
+        "clean, 900,000 words; scan",
+        3.0,
+        ROUNDS,
+        || mend(black_box(&mut mended)),
+        || ffi_face::scan(black_box(&image)),
+    )
+}
+
+/// Each thousandth word has a flipped bit; mending leaves none, so they are flipped before each turn,
+/// which is timed too.
+fn mend_900_000_words() -> bool {
+    let mut mended = images::planned(&mut Random::new(14), &[(1, 2, 900_000)]);
+    let flip = |image: &mut [u8]| {
+        image[144..144 + 8 * 900_000].iter_mut().step_by(8000).for_each(|byte| *byte ^= 1);
+    };
+    let mut damaged = mended.clone();
+    flip(&mut damaged);
+    row(
+        "a bit in 1,000 words; scan",
+        3.0,
+        ROUNDS,
+        || {
+            flip(&mut mended);
+            mend(black_box(&mut mended))
+        },
+        || ffi_face::scan(black_box(&damaged)),
+    )
+}
+
+fn mend_1_024_regions() -> bool {
+    let image = image_of_1_024_regions();
+    let mut mended = image.clone();
+    row(
+        "clean, 1,024 regions; scan",
+        3.0,
+        ROUNDS,
+        || mend(black_box(&mut mended)),
+        || ffi_face::scan(black_box(&image)),
+    )
+}
+
+/// What mend takes more than a scan, which is mostly the check that regions lie apart, beside a parse.
+fn lie_apart_1_024_regions() -> bool {
+    let image = image_of_1_024_regions();
+    let mut mended = image.clone();
+    let [mut mends, mut scans, mut parses] = [Duration::MAX; 3];
+    for _ in 0..20 * ROUNDS {
+        let (mend_answer, took) = time(&mut || mend(black_box(&mut mended)));
+        mends = mends.min(took);
+        let (scan_answer, took) = time(&mut || ffi_face::scan(black_box(&image)));
+        scans = scans.min(took);
+        parses = parses.min(time(&mut || ffi_face::parse(black_box(&image))).1);
+        assert!(mend_answer == scan_answer);
+    }
+    print_row("1,024 regions, less scan; parse", 1.0, mends.saturating_sub(scans), parses)
+}
+
+/// Each region lies before the earlier ones, so that every pair is looked at, as the Rust's parse does.
+fn lie_apart_falling() -> bool {
+    let end = 6 + 7 * 1024;
+    let entries: Vec<_> =
+        (0..1024).map(|kind| images::plain(kind, end - 1 - u32::from(kind), 1)).collect();
+    let image = inputs::image(&entries, 8 * end as usize);
+    let mut mended = image.clone();
+    row(
+        "1,024 falling; the Rust's parse",
+        1.0,
+        ROUNDS,
+        || mend(black_box(&mut mended)).0 == 0,
+        || WireView::parse(black_box(&image)).is_ok(),
+    )
+}
+
+/// The number and the report.
+fn mend(image: &mut [u8]) -> (u32, [u64; 4]) {
+    let (number, [some, words, corrected, beyond, _, _]) = ffi_face::mend_in_place(image);
+    (number, [some, words, corrected, beyond])
+}
+
 fn report(report: Option<EccReport>) -> [u64; 4] {
     let report = report.expect("there is a protected region");
     [1, report.words as u64, report.corrected as u64, report.uncorrectable as u64]
@@ -166,12 +262,16 @@ fn row<A: PartialEq>(
         our_best = our_best.min(our_time);
         rusts_best = rusts_best.min(rusts_time);
     }
-    let ratio = our_best.as_secs_f64() / rusts_best.as_secs_f64();
+    print_row(work, bar, our_best, rusts_best)
+}
+
+fn print_row(work: &str, bar: f64, ours: Duration, other: Duration) -> bool {
+    let ratio = ours.as_secs_f64() / other.as_secs_f64();
     let over = if ratio > bar { "  over the bar" } else { "" };
     println!(
         "{work:<32} {:>9.3} ms {:>9.3} ms {ratio:>9.5} {bar:>6}{over}",
-        millis(our_best),
-        millis(rusts_best)
+        millis(ours),
+        millis(other)
     );
     ratio <= bar
 }

@@ -4,7 +4,7 @@ pub mod CrcDivision
 pub mod CrcUnique
 pub mod CrcFigures
 pub mod ParityLaw
-pub mod ParityFigures
+pub mod FigureTable
 pub mod BytesLaw
 pub mod LayoutLaw
 pub mod WalkLaw
