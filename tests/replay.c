@@ -1,4 +1,4 @@
-/* Replays recorded answers of the Rust against libkw_test.a and libkw.a.
+/* Replays recorded answers, of the Rust and for mend of our own reading, against libkw_test.a and libkw.a.
 
    usage: replay FILE...
 
@@ -93,6 +93,7 @@ CALL(scrub) { kwt_scrub(SLICE(0), out->n); }
 CALL(kw_parse) { out->n[0] = kw_parse(SLICE(0), out->n + 1); }
 CALL(kw_scan) { out->n[0] = kw_scan(SLICE(0), out->n + 1); }
 CALL(kw_scrub) { out->n[0] = kw_scrub(SLICE(0), out->n + 1); }
+CALL(kw_mend) { out->n[0] = kw_mend(SLICE(0), out->n + 1); }
 
 struct row {
     const char *name;
@@ -143,6 +144,7 @@ static const struct row rows[] = {
     {"kw_parse", "b", 3, 0, call_kw_parse},
     {"kw_scan", "b", 5, 0, call_kw_scan},
     {"kw_scrub", "w", 5, 0, call_kw_scrub},
+    {"kw_mend", "w", 7, 0, call_kw_mend},
 };
 
 /* Reads a decimal number of at most `width` bytes; 0 if it isn't one. */

@@ -1,4 +1,5 @@
-/* What firmware does with an image: parse it, scan it, mend it, parse it afresh.
+/* What firmware does with an image: parse it, scan it, mend it, parse it afresh. What scrub would say
+   stands beside it.
 
    usage: firmware FILE
 
@@ -8,6 +9,7 @@
 #include <inttypes.h>
 #include <stdio.h>
 #include <stdlib.h>
+#include <string.h>
 #include "kw.h"
 
 static const char *reason(uint32_t number) {
@@ -52,6 +54,17 @@ static void report(const char *call, const uint64_t answer[4]) {
                answer[1], answer[2], answer[3]);
 }
 
+/* Scrub works on a copy: it repairs words where mend refuses, and leaves header copies and check bytes. */
+static void scrub_copy(const uint8_t *image, size_t len) {
+    uint64_t answer[4];
+    uint8_t *copy = malloc(len);
+    if (copy == NULL) return;
+    memcpy(copy, image, len);
+    kw_scrub(copy, len, answer);
+    report("scrub of a copy", answer);
+    free(copy);
+}
+
 /* 1 if the image is whole. */
 static int mend(uint8_t *image, size_t len) {
     uint64_t answer[6];
@@ -71,6 +84,7 @@ static int check(uint8_t *image, size_t len) {
     if (!parse(image, len)) return 0;
     kw_scan(image, len, answer);
     report("scan", answer);
+    scrub_copy(image, len);
     if (!mend(image, len)) return 0;
     /* mend wrote to the image: what was checked before is checked again */
     if (!parse(image, len)) return 0;

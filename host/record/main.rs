@@ -2,8 +2,8 @@
 //!
 //! usage: record FOLDER
 //!
-//! It calls the oracle alone, and adds the images that host/example is run on. One file for each of
-//! our crates, one case a line:
+//! It calls the oracle alone, for mend, which the oracle has not, our reading of document 01; and it
+//! adds the images that host/example is run on. One file for each of our crates, one case a line:
 //! function, arguments, `->`, answer. Numbers are decimal and bytes are hex; `-` stands for no
 //! bytes, `00*600` for bytes repeated, `#1024` for the directory entries of kinds 0 to 1023 that are
 //! 0 otherwise, and `+` joins such parts. An answer that may be None is `1 VALUE` or zeros; where
@@ -21,6 +21,9 @@ mod images;
 #[allow(dead_code)]
 mod inputs;
 mod layout;
+mod mend;
+#[path = "../compare/mending.rs"]
+mod mending;
 #[path = "../compare/paper.rs"]
 #[allow(dead_code)]
 mod paper;
@@ -42,6 +45,7 @@ fn main() {
     write(&folder, "tables", tables::lines());
     write(&folder, "scan", scan::lines());
     write(&folder, "scrub", scrub::lines());
+    write_under(MENDED, &folder, "mend", mend::lines());
     let images = Path::new(&folder).join("images");
     fs::create_dir_all(&images).expect("the folder is made");
     for (name, bytes) in scrub::examples() {
@@ -49,10 +53,18 @@ fn main() {
     }
 }
 
+const MADE: &str =
+    "# Answers of the unchanged Rust, made by 'make record' (host/record), not by hand.";
+const MENDED: &str = "# The Rust has no mend: answers of our own reading of document 01, which asks \
+    the Rust for parse and\n# decoding (host/compare/mending.rs), made by 'make record', not by hand.";
+
 fn write(folder: &str, name: &str, lines: Vec<String>) {
-    let made = "# Answers of the unchanged Rust, made by 'make record' (host/record), not by hand.";
+    write_under(MADE, folder, name, lines);
+}
+
+fn write_under(head: &str, folder: &str, name: &str, lines: Vec<String>) {
     let path = Path::new(folder).join(name).with_extension("txt");
-    fs::write(&path, format!("{made}\n{}\n", lines.join("\n"))).expect("the file is written");
+    fs::write(&path, format!("{head}\n{}\n", lines.join("\n"))).expect("the file is written");
 }
 
 /// The two numbers that stand for an answer that may be None.
