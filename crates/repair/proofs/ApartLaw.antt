@@ -9,7 +9,7 @@ use native.Mathlib.Omega.{arith}
 use borrow.Author.Tests.{lt-ltb, le-ltb}
 use lib.Dec.{eqb, ltb}
 use lib.ListN.{length, drop, drop-of-length-le}
-use Rattle.scan.proofs.TotalLaw.{length-seen}
+use Rattle.scan.proofs.TotalLaw.{or-false, length-seen}
 use Rattle.paper.specs.Refusals.{overlappingRegions, Verdict, fine, refuse, _then_, refuseIf}
 use Rattle.paper.specs.Layout.{Entry, start, headerLength}
 use Rattle.paper.specs.Views.{nth, seen, regionAt}
@@ -44,10 +44,6 @@ module _ (e f : Entry) where
   meets-else a b c = rw (lt-ltb 0 (e .words) a, lt-ltb 0 (f .words) b, lt-ltb (e .offset) (f .offset + f .words) c)
 
 -- ---- an entry and those before it
-
-or-false : (t : Bool) → t || false ≡ t
-or-false true = refl
-or-false false = refl
 
 pub meets-none : (n : ℕ) (x : List ℕ) (j : ℕ) (r : RegionAt) (e : Entry) → r ≡ foundAs (regionAt n x j) → r ≡ is.Nothing → false ≡ meetsAny e (before (regionAt n x j) [])
 unfolding meetsAny

@@ -14,11 +14,12 @@ use Rattle.paper.specs.Layout.{Entry, count, headerLength, header, directory, d
 use Rattle.paper.specs.Parse.{parseVerdict}
 use Rattle.paper.specs.Parity.{Class, clean, flipped, beyond}
 use Rattle.paper.specs.Views.{nth, seen, regionAt}
-use Rattle.paper.specs.Scan.{Pair, Among, pairsFrom, pairsOver, pairsWith, regionPairs, isProtected, planeOf, found, visitsAny, examined, isCorrected, total, classAt, classesAt, reportOf, report, scan, scanIn}
+use Rattle.paper.specs.Scan.{Pair, Among, pairsFrom, pairsOver, pairsWith, regionPairs, isProtected, planeOf, found, visitsAny, examined, isCorrected, total, classAt, classesAt, reportOf, report, scanOver, scan, scanIn}
 use Rattle.paper.specs.Mend as paper
 use Rattle.paper.specs.Mend.{apartVerdict, mendVerdict, storedPair, fixAt, fixAll, mendBytes, changed, mend, mendAs}
 use Rattle.paper.proofs.ParseLaw.{accepted-long}
 use Rattle.paper.proofs.LayoutLaw.{length-directoryOf}
+use Rattle.view.proofs.SeenLaw.{seen-long}
 use Rattle.laws.specs.Steps.{mendHeader, mendWords}
 use Rattle.laws.proofs.HeaderLaw.{SameHeader, header-kept, same-directory}
 use Rattle.laws.proofs.HeaderHalf.{header-keeps, header-verdict, header-then-words, header-examined, header-word, header-check}
@@ -169,13 +170,13 @@ corrected-all x = go (visitsAny (length x) (directory x) (directory x)) refl
 
 -- ---- of an image that mend accepts
 
-pub scan-is : (x : List ℕ) → parseVerdict x ≡ fine → scanIn (count x) x ≡ scan x
-unfolding scanIn scan seen directory
-scan-is x h = rw (le-ltb (length x) (headerLength (count x)) (accepted-long x h))
-
 pub seen-is : (x : List ℕ) → parseVerdict x ≡ fine → seen (count x) x ≡ directory x
-unfolding seen directory
-seen-is x h = rw (le-ltb (length x) (headerLength (count x)) (accepted-long x h))
+unfolding directory
+seen-is x h = seen-long (count x) x (accepted-long x h)
+
+pub scan-is : (x : List ℕ) → parseVerdict x ≡ fine → scanIn (count x) x ≡ scan x
+unfolding scanIn scan
+scan-is x h = ap (scanOver x) (seen-is x h)
 
 module _ (x : List ℕ) (v : mendVerdict x ≡ fine) (b : Bytes x) where
   pub mended-all : mendWords (mendHeader x) ≡ mendBytes x

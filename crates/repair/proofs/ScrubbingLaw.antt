@@ -21,6 +21,7 @@ use Rattle.paper.specs.Scrub.{State, storedWord, scrubWord, scrubWords, visited
 use Rattle.paper.proofs.ParseLaw.{accepted-long}
 use Rattle.repair.specs.declared.scrubbing.Counts.{Counts}
 use Rattle.repair.specs.Answers.{asState, scrubIn, Room, counted}
+use Rattle.scan.proofs.TotalLaw.{or-false}
 use Rattle.repair.proofs.NthLaw.{nth-gone, nth-there}
 use Rattle.repair.specs.Runs.{entryPairs, entryVisited}
 
@@ -100,10 +101,6 @@ words-same (p ∷ ps) s e =
     words-same ps (scrubWord p s) h ∙ kept-class (classAt (s .image) p) p (s .image) z
 
 -- ---- region i
-
-or-false : (t : Bool) → t || false ≡ t
-or-false true = refl
-or-false false = refl
 
 -- the run of entry i, and whether it is visited
 pub region-run : (n i : ℕ) (s : State)

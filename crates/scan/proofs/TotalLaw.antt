@@ -34,7 +34,7 @@ plus-assoc : (a b c : Report) → plus (plus a b) c ≡ plus a (plus b c)
 plus-assoc a b c =
     rw (add-assoc (a .words) (b .words) (c .words), add-assoc (a .corrected) (b .corrected) (c .corrected), add-assoc (a .uncorrectable) (b .uncorrectable) (c .uncorrectable))
 
-or-false : (t : Bool) → t || false ≡ t
+pub or-false : (t : Bool) → t || false ≡ t
 or-false true = refl
 or-false false = refl
 

@@ -10,7 +10,8 @@ use Rattle.paper.specs.Scan.{scanIn, scan}
 use Rattle.view.specs.Answers.{asParsed}
 use Rattle.view.proofs.AnswersLaw.{parsed-fine, parsed-count}
 use Rattle.kw.specs.Numbers.{refusalNumber, reportNumbers, scanNumbers}
-use Rattle.kw.proofs.Told.{told, scan-parsed}
+use Rattle.repair.proofs.MendingLaw.{scan-is}
+use Rattle.kw.proofs.Told.{told}
 use borrow.Author.Needs.{needs}
 use Rattle.kw.proofs.kw_scan.Statement.{statement}
 use Rattle.kw.proofs.kw_scan.Tie as tie
@@ -25,7 +26,7 @@ returns c =
     let f : parseVerdict x ≡ fine = parsed-fine x (p .result) (p .ensures) h (s .h .given .1) in (
       told refusalNumber asParsed (p .ensures) (s .h .given .1),
       c .report-numbers .ensures
-          ∙ ap reportNumbers (c .before .verify-all .ensures ∙ ap (λ (m : ℕ). scanIn m x) n ∙ scan-parsed x f)
+          ∙ ap reportNumbers (c .before .verify-all .ensures ∙ ap (λ (m : ℕ). scanIn m x) n ∙ scan-is x f)
           ∙ told (λ (o : Parsed). scanNumbers o (scan x)) asParsed (p .ensures) (s .h .given .1),
     )
 
