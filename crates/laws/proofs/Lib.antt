@@ -14,3 +14,4 @@ pub mod PlanLaw
 pub mod PlanPairs
 pub mod ImageLaw
 pub mod AppendLaw
+pub mod PutLaw

@@ -18,6 +18,7 @@ use Rattle.paper.specs.Parity.{columns, find, isOdd, classOf, checkOf, s
 use Rattle.paper.specs.Scan.{planeOf, pairsFrom, regionPairs, isProtected, pairsOver, examined, total, report, classAt, classesAt, reportOf, visitsAny, scan}
 use Rattle.paper.specs.Scrub.{scrub, scrubFrom, scrubRegion, scrubWords, scrubWord, visited, Scrubbed}
 use Rattle.paper.specs.Mend.{meets, meetsAny, inHeader, apartVerdict, mendVerdict, fixAt, fixAll, mendBytes, changed, mend, Mending, refusedMend, mended}
+use Rattle.paper.specs.Programs.{text, digits, decimal, field, tooLong, tooLongLine, refusedLine, regionsLine, eccLine, storedLine, reportText, scrubImage, scrubLine}
 use Rattle.paper.specs.Writer.{Row, rowEntries, planeEntry, planeEntries, rowWords, planesWords, planes, regions, planDirectory, entryBytes, entriesBytes, prologueStart, prologueBytes, checks, planeBytes, planesBytes, imageOf, kindAmong, rowsVerdict, imageLength, planVerdict, write, image, refusedPlan}
 
 -- ---- what a figure computes with: a line `unfolding parsing` opens all that this one names
@@ -33,6 +34,10 @@ mending x = mend x
 scrubbing : List ℕ → Scrubbed
 unfolding mending scrub scrubFrom scrubRegion scrubWords scrubWord visited
 scrubbing x = scrub x
+
+printing : List ℕ → List ℕ
+unfolding mending reportText scrubImage scrubLine tooLong tooLongLine refusedLine regionsLine eccLine storedLine field decimal digits text
+printing x = reportText x
 
 writing : List Row → List ℕ → List ℕ
 unfolding imageOf prologueBytes prologueStart crc32 le serialR stepR sent bitsLow bit regions planes planDirectory rowEntries planeEntries planeEntry entriesBytes entryBytes planesBytes planeBytes checks checkOf columns syn read rowWords
@@ -55,6 +60,10 @@ empty-length = refl
 empty-parses : parse emptyImage ≡ accepted (record { regions = 0; prologueDisagreed = false; directoryDisagreed = false })
 unfolding emptyImage parsing
 empty-parses = refl
+
+empty-printed : reportText emptyImage ≡ text "regions 0 scrub no\necc none\n"
+unfolding emptyImage printing
+empty-printed = refl
 
 -- ---- row (kind 1, flags 2, one word): header 144, payload at word 18, plane at word 19, image 160
 
@@ -93,6 +102,23 @@ oneDamaged = set (set oneImage 146 7) 20 0
 one-mends : mend oneDamaged ≡ mended oneImage (some (record { words = 1; corrected = 1; uncorrectable = 0 })) 2 true
 unfolding oneDamaged oneImage mending
 one-mends = refl
+
+-- the programs' lines
+one-printed : reportText oneImage ≡ text "regions 2 scrub no\necc 1 0 0\n"
+unfolding oneImage printing
+one-printed = refl
+
+damaged-printed : reportText oneDamaged ≡ text "regions 2 scrub yes\necc 1 1 0\n"
+unfolding oneDamaged oneImage printing
+damaged-printed = refl
+
+damaged-scrubbed : (scrubImage oneDamaged ≡ oneImage) × (scrubLine oneDamaged ≡ text "stored 2\n")
+unfolding oneDamaged oneImage printing
+damaged-scrubbed = (refl, refl)
+
+nothing-printed : reportText [] ≡ text "refused 1 0\n"
+unfolding printing
+nothing-printed = refl
 
 -- scrub repairs the word, and leaves the header copy
 one-scrubs : scrub oneDamaged ≡

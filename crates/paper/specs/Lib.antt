@@ -9,3 +9,4 @@ pub mod Scan
 pub mod Scrub
 pub mod Writer
 pub mod Mend
+pub mod Programs

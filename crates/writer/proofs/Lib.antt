@@ -7,7 +7,6 @@ pub mod Laid
 pub mod LoopLaw
 pub mod MarksLaw
 pub mod OneAnswer
-pub mod PutLaw
 pub mod RowsLaw
 pub mod RunLaw
 pub mod TakenLaw

@@ -1,4 +1,3 @@
 pub mod Answers
 pub mod Kept
-pub mod Put
 pub mod Taken

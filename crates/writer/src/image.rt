@@ -7,7 +7,8 @@ ghost use Rattle.paper.specs.Writer.{prologueBytes, rowWords, planesWords, rowE
 ghost use Rattle.paper.specs.Writer as paper;
 ghost use Rattle.writer.specs.Answers.{Answered};
 ghost use Rattle.writer.specs.Kept.{kindIn, rowOf, rowEntry, rowsOf, directoryBytes, Low, keptRows, Kept, Sized, sizesVerdict, checkedVerdict};
-ghost use Rattle.writer.specs.Put.{Put, asEntry};
+ghost use Rattle.laws.specs.Put.{Put};
+ghost use Rattle.layout.specs.Regions.{asEntry};
 use super::plan::Checked;
 use super::plan::flags_of;
 use super::plan::is_protected;

@@ -3,7 +3,7 @@ use mathlib.Core.Path.{refl}
 use Prim.Native.Nat.{_-_}
 use native.Mathlib.Omega.{arith}
 use lib.ListN.{length}
-use Rattle.writer.proofs.PutLaw.{kept-length, Bytewise, none-put, byte-room, byte-put, all-put}
+use Rattle.laws.proofs.PutLaw.{kept-length, Bytewise, none-put, byte-room, byte-put, all-put}
 use Rattle.writer.proofs.put.put_bytes.Statement.{statement}
 use Rattle.writer.proofs.put.put_bytes.Tie as tie
 

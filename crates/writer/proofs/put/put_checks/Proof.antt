@@ -9,7 +9,7 @@ use Rattle.paper.specs.Writer.{checks}
 use Rattle.scalar.proofs.OrZero.{or-zero-in}
 use Rattle.laws.proofs.PlanPairs.{length-checks}
 use Rattle.writer.proofs.ChecksLaw.{check-at}
-use Rattle.writer.proofs.PutLaw.{kept-length, Bytewise, none-put, byte-room, byte-put, all-put}
+use Rattle.laws.proofs.PutLaw.{kept-length, Bytewise, none-put, byte-room, byte-put, all-put}
 use Rattle.writer.proofs.put.put_checks.Statement.{statement}
 use Rattle.writer.proofs.put.put_checks.Tie as tie
 

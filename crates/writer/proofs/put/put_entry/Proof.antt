@@ -6,8 +6,8 @@ use mathlib.Core.List.{List, _++_}
 use Rattle.paper.specs.Bytes.{le}
 use Rattle.paper.specs.Layout.{Entry}
 use Rattle.paper.specs.Writer.{entryBytes}
-use Rattle.writer.specs.Put.{asEntry}
-use Rattle.writer.proofs.PutLaw.{Going, begin, go-on, last}
+use Rattle.layout.specs.Regions.{asEntry}
+use Rattle.laws.proofs.PutLaw.{Going, begin, go-on, last}
 use borrow.Author.Needs.{needs}
 use Rattle.writer.proofs.put.put_entry.Statement.{statement}
 use Rattle.writer.proofs.put.put_entry.Tie as tie

@@ -8,9 +8,9 @@ use mathlib.Core.List.{_++_}
 use Rattle.paper.specs.Writer.{checks, planeWords, planeBytes}
 use Rattle.laws.proofs.PlanPairs.{length-checks, length-plane}
 use Rattle.writer.specs.Kept.{wordsIn, rowOf}
-use Rattle.writer.specs.Put.{Put}
+use Rattle.laws.specs.Put.{Put}
 use Rattle.writer.proofs.ChecksLaw.{plane-put}
-use Rattle.writer.proofs.PutLaw.{Going, begin, go-on, last}
+use Rattle.laws.proofs.PutLaw.{Going, begin, go-on, last}
 use borrow.Author.Needs.{needs}
 use Rattle.writer.proofs.put.put_plane.Statement.{statement}
 use Rattle.writer.proofs.put.put_plane.Tie as tie

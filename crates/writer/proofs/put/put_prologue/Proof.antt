@@ -9,8 +9,8 @@ use Rattle.paper.proofs.BytesLaw.{length-le}
 use Rattle.paper.specs.Bytes.{le}
 use Rattle.paper.specs.Crc.{crc32}
 use Rattle.paper.specs.Writer.{prologueStart, prologueBytes}
-use Rattle.writer.specs.Put.{Put}
-use Rattle.writer.proofs.PutLaw.{Going, begin, go-on, last, put-read}
+use Rattle.laws.specs.Put.{Put}
+use Rattle.laws.proofs.PutLaw.{Going, begin, go-on, last, put-read}
 use borrow.Author.Needs.{needs}
 use Rattle.writer.proofs.put.put_prologue.Statement.{statement}
 use Rattle.writer.proofs.put.put_prologue.Tie as tie

@@ -5,7 +5,7 @@ use denote.Ref.{now}
 use mathlib.Core.List.{List, _++_}
 use Rattle.paper.specs.Bytes.{le}
 use Rattle.paper.specs.Writer.{prologueStart}
-use Rattle.writer.proofs.PutLaw.{Going, begin, go-on, last}
+use Rattle.laws.proofs.PutLaw.{Going, begin, go-on, last}
 use borrow.Author.Needs.{needs}
 use Rattle.writer.proofs.put.put_prologue_start.Statement.{statement}
 use Rattle.writer.proofs.put.put_prologue_start.Tie as tie

@@ -3,7 +3,7 @@ use mathlib.Core.Path.{subst}
 use Prim.Native.Nat.{ℕ}
 use denote.Ref.{now}
 use mathlib.Core.List.{List}
-use Rattle.writer.specs.Put.{Put}
+use Rattle.laws.specs.Put.{Put}
 use borrow.Author.Needs.{needs}
 use Rattle.writer.proofs.put.put_u16.Statement.{statement}
 use Rattle.writer.proofs.put.put_u16.Tie as tie

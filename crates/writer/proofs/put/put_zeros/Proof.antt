@@ -3,7 +3,7 @@ use mathlib.Core.Path.{sym}
 use Prim.Native.Nat.{ℕ, _-_}
 use native.Mathlib.Omega.{arith}
 use lib.ListN.{replicate, length-replicate, getD-replicate}
-use Rattle.writer.proofs.PutLaw.{kept-length, Bytewise, none-put, byte-room, byte-put, all-put}
+use Rattle.laws.proofs.PutLaw.{kept-length, Bytewise, none-put, byte-room, byte-put, all-put}
 use Rattle.writer.proofs.put.put_zeros.Statement.{statement}
 use Rattle.writer.proofs.put.put_zeros.Tie as tie
 

@@ -7,14 +7,22 @@ use native.Mathlib.Numerals.{add-one}
 use native.Mathlib.Omega.{arith}
 use lib.ListN.{length, getD, take, drop, set, length-set, length-append, length-drop, drop-of-length-le}
 use lib.Seq.{sets, length-sets, sets-eq, take-at, drop-at, drop-cons, length-take-le}
 use Rattle.laws.specs.Steps.{over}
-use Rattle.writer.specs.Put.{Put}
+use Rattle.laws.specs.Put.{Put}
 
 pub sets-append : (o a b : List ℕ) (p : ℕ) → sets o p (a ++ b) ≡ sets (sets o p a) (p + length a) b
 sets-append o [] b p = ap (λ (k : ℕ). sets o k b) (sym (add-zero p))
 sets-append o (x ∷ a) b p =
     sets-append (set o p x) a b (suc p)
     ∙ ap (λ (k : ℕ). sets (sets (set o p x) (suc p) a) k b) (suc-add p (length a) ∙ sym (add-suc p (length a)))
+
+-- two runs, one behind the other
+pub put-two : (o : List ℕ) (p : ℕ) (a b : List ℕ) {o₁ o₂ : List ℕ} {p₁ p₂ : ℕ} → Put o p a p₁ o₁ → Put o₁ p₁ b p₂ o₂ → Put o p (a ++ b) p₂ o₂
+put-two o p a b g h = record {
+  behind = omega (arith, g .behind, h .behind, length-append a b);
+  stored = h .stored ∙ ap₂ (λ (x : List ℕ) (k : ℕ). sets x k b) (g .stored) (g .behind) ∙ sym (sets-append o a b p);
+  long = h .long ∙ g .long;
+}
 
 -- o₀ with B₀ stored from p₀ on is o with B stored from p on, up to the same place, and there is room for B
 pub record Going (o₀ : List ℕ) (p₀ : ℕ) (B₀ o : List ℕ) (p : ℕ) (B : List ℕ) : Type 0 where

@@ -1,0 +1,2 @@
+pub mod DecimalLaw
+pub mod TextLaw

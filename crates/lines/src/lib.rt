@@ -1,0 +1,70 @@
+// What the programs print, made in a buffer of the caller's. (FORMAT 11)
+mod put;
+
+ghost use mathlib.Core.Path.{_≡_};
+ghost use lib.ListN.{length, take};
+ghost use lib.Seq.{sets};
+ghost use Rattle.io.specs.Counts.{Counts};
+ghost use Rattle.paper.specs.Programs.{reportText, scrubImage, scrubLine};
+ghost use Rattle.lines.specs.Left.{leftIn};
+use put::put_ecc;
+use put::put_refused;
+use put::put_regions;
+use put::put_stored;
+use put::put_too_long;
+use repair::MendResult;
+use view::ParseResult;
+
+// The longest input that is looked at.
+pub const LONGEST: usize = 65536;
+
+// The report on an image, from the start of out on; the number of its bytes.
+pub fn report(image: &[u8], out: &mut [u8; 128]) -> usize
+    ensures is { λ r. ⌜ r ≡ length (reportText (now (image .entry))) ⌝ }
+    ensures leaves { λ _. ⌜ now (out .exit) ≡ sets (now (out .entry)) 0 (reportText (now (image .entry))) ⌝ }
+    ensures fits { λ r. ⌜ Counts r (now (out .exit)) ⌝ }
+{
+    if image.len() > LONGEST {
+        return put_too_long(out);
+    }
+    match view::parse(image) {
+        ParseResult::Refused(refusal) => put_refused(out, refusal),
+        ParseResult::Parsed(header) => {
+            let report = scan::verify_all(image, header);
+            let at = put_regions(out, header.region_count, header.needs_scrub());
+            put_ecc(out, at, report)
+        }
+    }
+}
+
+// How many bytes go to standard output and to standard error.
+pub struct Printed {
+    pub image: usize,
+    pub line: usize,
+}
+
+// An image mended in place, all of it to be written, or refused and none of it; and from the start of out on the line that says so.
+pub fn scrub(image: &mut [u8], out: &mut [u8; 128]) -> Printed
+    ensures is { λ r. ⌜ r .line ≡ length (scrubLine (now (image .entry))) ⌝ }
+    ensures says { λ _. ⌜ now (out .exit) ≡ sets (now (out .entry)) 0 (scrubLine (now (image .entry))) ⌝ }
+    ensures leaves { λ _. ⌜ now (image .exit) ≡ leftIn (now (image .entry)) ⌝ }
+    ensures writes { λ r. ⌜ (r .image ≡ length (scrubImage (now (image .entry)))) × (take (r .image) (now (image .exit)) ≡ scrubImage (now (image .entry))) ⌝ }
+    ensures fits { λ r. ⌜ Counts (r .line) (now (out .exit)) × Counts (r .image) (now (image .exit)) ⌝ }
+{
+    if image.len() > LONGEST {
+        return Printed {
+            image: 0,
+            line: put_too_long(out),
+        };
+    }
+    match repair::mend(image) {
+        MendResult::Refused(refusal) => Printed {
+            image: 0,
+            line: put_refused(out, refusal),
+        },
+        MendResult::Mended(mending) => Printed {
+            image: image.len(),
+            line: put_stored(out, mending.stored),
+        },
+    }
+}

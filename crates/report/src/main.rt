@@ -1,0 +1,19 @@
+// report: what an image on standard input is, in one or two lines. (FORMAT 11)
+
+// One byte more than the longest input that is looked at, so that a longer one shows.
+fn main() {
+    let mut buffer = [0u8; 65537];
+    if os::arg_count() > 1 {
+        io::write_all(libc::STDERR_FILENO, b"usage: report <IMAGE\n");
+        return;
+    }
+    let input = streams::read_input(&mut buffer);
+    if input.failed {
+        os::fail(b"report: standard input");
+        return;
+    }
+    let n = input.length;
+    let mut out = [0u8; 128];
+    let k = lines::report(&buffer[..n], &mut out);
+    streams::write_output(&out[..k], b"report: standard output");
+}

@@ -1,0 +1,46 @@
+// Standard input and output, for the programs. No contract can say what a call reads or writes; proved is that each function ends, and
+// that a count lies within its buffer.
+ghost use Rattle.io.specs.Counts.{Counts};
+
+// The bytes read, from the start of the buffer on, and whether a read failed before the input's end.
+pub struct Input {
+    pub length: usize,
+    pub failed: bool,
+}
+
+// Reads until the buffer is full or the input ends, however many bytes each read brings.
+pub fn read_input(buffer: &mut [u8]) -> Input
+    ensures { λ r. ⌜ Counts (r .length) (now (buffer .exit)) ⌝ }
+{
+    let mut n: usize = 0;
+    while n < buffer.len() {
+        let got = libc::read(libc::STDIN_FILENO, &mut buffer[n..]);
+        if got < 0 {
+            return Input {
+                length: n,
+                failed: true,
+            };
+        }
+        let more = io::count(got, &buffer[n..]);
+        if more == 0 {
+            return Input {
+                length: n,
+                failed: false,
+            };
+        }
+        n += more;
+    }
+    Input {
+        length: n,
+        failed: false,
+    }
+}
+
+// Writes bytes to standard output; says on standard error, after the given name, why it can't.
+pub fn write_output(bytes: &[u8], name: &[u8]) -> bool {
+    let written = io::write_all(libc::STDOUT_FILENO, bytes);
+    if !written {
+        os::fail(name);
+    }
+    written
+}
