@@ -1,15 +1,17 @@
 # keleusma-wire in Rattle
 #
-#   make            prove every crate and build the archives
-#   make test       the gate: prove all from nothing, compare with the Rust, replay its answers
+#   make            prove every crate; build report, scrub, libkw.a and a sample image
+#   make demo       damage the sample, look at it, mend it, and see that it is as it was
+#   make test       the gate: prove all from nothing, compare with the Rust, run everything
 #   make compare    run ours and the Rust on the same inputs (SEED=N for other random ones)
 #   make soak       the same with a hundred times the random inputs and a seed of its own
 #   make replay     hold ours against the recorded answers; needs no Rust
+#   make programs   report and scrub on every case of tests/answers/programs, and on bad files
 #   make face       the C example on sample images, installed and not; the stack that a call takes
 #   make bench      time ours beside the Rust
 #   make record     make tests/answers anew from the Rust
-#   make sample     see that tests/answers is what 'make record' makes
-#   make install    header, archive and kw.pc to PREFIX (/usr/local), below DESTDIR if that is set
+#   make recorded   see that tests/answers is what 'make record' makes
+#   make install    programs, header, archive, kw.pc and man pages to PREFIX (/usr/local), below DESTDIR
 #   make clean      remove all that was built
 #
 #   KW_ORACLE=FOLDER   where the unchanged Rust is, if not in ../shared/docs/src
@@ -19,7 +21,7 @@
 MAKEFLAGS += --no-print-directory
 .NOTPARALLEL:
 .DELETE_ON_ERROR:
-.PHONY: all archives test compare soak replay face bench record sample install clean help
+.PHONY: all archives test demo compare soak replay programs face bench record recorded install clean help
 
 ifeq ($(strip $(KW_ORACLE)),)
 KW_ORACLE = ../shared/docs/src
@@ -28,18 +30,29 @@ export KW_ORACLE
 
 KW_TEST_LIB = target/staticlib/libkw_test.a
 KW_LIB = target/staticlib/libkw.a
+PROGRAMS = target/bin/report target/bin/scrub
 ARCHIVES = target/staticlib/libkw_test.a target/staticlib/libkw.a
 PROVED = crates.txt $(shell find crates -name '*.rt' -o -name '*.antt')
 
 all:
 	rt check
-	$(MAKE) archives
+	$(MAKE) archives $(PROGRAMS) host/build/sample.kw
 
 archives: $(ARCHIVES)
 
 target/staticlib/lib%.a: $(PROVED)
 	rt staticlib $*
 	test -s $@
+
+target/bin/%: $(PROVED)
+	rt check $*
+	touch $@
+
+host/build/sample.kw: host/build/make_image
+	host/build/make_image >$@
+
+demo: $(PROGRAMS) host/build/sample.kw
+	@sh host/example/demo.sh target/bin host/build/sample.kw
 
 test:
 	@sh tests/gate.sh
@@ -53,6 +66,9 @@ soak: host/build/compare
 replay: host/build/replay
 	host/build/replay tests/answers/*.txt
 
+programs: $(PROGRAMS)
+	sh tests/programs.sh target/bin
+
 face: host/build/firmware host/build/make_image host/build/stack host/build/replay
 	sh tests/face.sh $(KW_LIB)
 
@@ -63,7 +79,7 @@ record: host/build/record
 	mkdir -p tests/answers
 	host/build/record tests/answers
 
-sample: host/build/record
+recorded: host/build/record
 	rm -rf host/build/answers
 	mkdir host/build/answers
 	host/build/record host/build/answers
@@ -72,11 +88,14 @@ sample: host/build/record
 PREFIX = /usr/local
 DESTDIR =
 
-install: $(KW_LIB)
-	install -d $(DESTDIR)$(PREFIX)/include $(DESTDIR)$(PREFIX)/lib/pkgconfig
+install: $(KW_LIB) $(PROGRAMS)
+	install -d $(addprefix $(DESTDIR)$(PREFIX)/,bin include lib/pkgconfig share/man/man1 share/man/man3)
+	install -m 755 $(PROGRAMS) $(DESTDIR)$(PREFIX)/bin
 	install -m 644 include/kw.h $(DESTDIR)$(PREFIX)/include/kw.h
 	install -m 644 $(KW_LIB) $(DESTDIR)$(PREFIX)/lib/libkw.a
 	sed 's|@PREFIX@|$(PREFIX)|' include/kw.pc.in >$(DESTDIR)$(PREFIX)/lib/pkgconfig/kw.pc
+	install -m 644 docs/man/report.1 docs/man/scrub.1 $(DESTDIR)$(PREFIX)/share/man/man1
+	install -m 644 docs/man/kw.3 $(DESTDIR)$(PREFIX)/share/man/man3
 
 clean:
 	rm -rf target host/build

@@ -1,6 +1,6 @@
 #!/bin/sh
 # The C face as its users meet it, called by 'make face' with the archive: the example is run on the
-# images of tests/answers/images, which must give tests/firmware.txt, plainly, under valgrind, with the
+# images of tests/answers/programs, which must give tests/firmware.txt, plainly, under valgrind, with the
 # sanitizers, and built against an installed copy; the replay is run under valgrind; the stack that a
 # call takes is measured. The last line is 'face N passed, M failed'; exit status 0 only if M is 0.
 set -u
@@ -34,7 +34,7 @@ left_out() { # TOOL
 says() { # COMMAND...
     for image in damaged beyond march unprotected refused; do
         echo "== $image"
-        "$@" "tests/answers/images/$image.kw" 2>&1
+        "$@" "tests/answers/programs/$image.kw" 2>&1
         echo "status $?"
     done >"$work/said"
     diff tests/firmware.txt "$work/said"
@@ -45,11 +45,17 @@ sanitized() {
         host/example/firmware.c "$library" -o "$work/sanitized" && says "$work/sanitized"
 }
 
-# Built with what pkg-config says of the installed copy, and with nothing of this folder.
+# The installed programs run, the pages are there, and the example is built with what pkg-config says of the
+# installed copy, and with nothing of this folder.
 installed() {
     make install DESTDIR="$work/dest" PREFIX=/opt/kw KW_LIB="$library" || return 1
     flags=$(PKG_CONFIG_PATH=$work/dest/opt/kw/lib/pkgconfig PKG_CONFIG_SYSROOT_DIR=$work/dest \
         pkg-config --cflags --libs kw) || return 1
+    "$work/dest/opt/kw/bin/report" <tests/answers/programs/damaged.kw | cmp - tests/answers/programs/damaged.report || return 1
+    "$work/dest/opt/kw/bin/scrub" <tests/answers/programs/damaged.kw 2>"$work/line" | cmp - tests/answers/programs/damaged.scrub || return 1
+    for page in man1/report.1 man1/scrub.1 man3/kw.3; do
+        test -s "$work/dest/opt/kw/share/man/$page" || return 1
+    done
     cp host/example/firmware.c "$work/firmware.c"
     (cd "$work" && gcc $strict firmware.c $flags -o firmware) && says "$work/firmware"
 }

@@ -1,8 +1,8 @@
 #!/bin/sh
 # The gate, called by 'make test'. Every part runs, whatever became of the one before it. The last
 # line, 'N passed, M failed', counts what rt proved and refused, the cases compared, the lines
-# replayed and the cases of the C face. A part that fails, leaves no count or counts nothing is a failure; the exit status is 0
-# only if M is 0.
+# replayed, and the cases of the programs and of the C face. A part that fails, leaves no count or
+# counts nothing is a failure; the exit status is 0 only if M is 0.
 set -u
 cd "$(dirname "$0")/.." || exit 2
 : "${KW_ORACLE:?call this by make test}"
@@ -63,7 +63,7 @@ must_end_well
 if [ -d "$KW_ORACLE" ]; then
     part compare make compare
     count 'compared ([0-9]+) cases, ([0-9]+) different'
-    part sample make sample
+    part recorded make recorded
     must_end_well
 else
     echo "comparison left out: no oracle at $KW_ORACLE"
@@ -71,6 +71,12 @@ fi
 
 part replay make replay
 count 'replayed ([0-9]+) lines, ([0-9]+) different'
+
+part programs make programs
+count 'programs ([0-9]+) passed, ([0-9]+) failed'
+
+part demo make demo
+must_end_well
 
 part face make face
 count 'face ([0-9]+) passed, ([0-9]+) failed'

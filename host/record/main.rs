@@ -2,9 +2,10 @@
 //!
 //! usage: record FOLDER
 //!
-//! It calls the oracle alone, for mend, which the oracle has not, our reading of document 01; and it
-//! adds the images that host/example is run on. One file for each of our crates, one case a line:
-//! function, arguments, `->`, answer. Numbers are decimal and bytes are hex; `-` stands for no
+//! It calls the oracle alone, and for mend, which the oracle has not, our reading of document 01. The
+//! folder `programs` in it has what the programs, and host/example, are run on: NAME.kw, what report
+//! prints of it, what scrub writes, and its line. Otherwise one file for each of our crates, one case
+//! a line: function, arguments, `->`, answer. Numbers are decimal and bytes are hex; `-` stands for no
 //! bytes, `00*600` for bytes repeated, `#1024` for the directory entries of kinds 0 to 1023 that are
 //! 0 otherwise, and `+` joins such parts. An answer that may be None is `1 VALUE` or zeros; where
 //! the bytes are lent to be written, it ends with those that moved, `PLACE=VALUE`, or `-`.
@@ -27,6 +28,7 @@ mod mending;
 #[path = "../compare/paper.rs"]
 #[allow(dead_code)]
 mod paper;
+mod programs;
 mod scalar;
 mod scan;
 mod scrub;
@@ -46,10 +48,17 @@ fn main() {
     write(&folder, "scan", scan::lines());
     write(&folder, "scrub", scrub::lines());
     write_under(MENDED, &folder, "mend", mend::lines());
-    let images = Path::new(&folder).join("images");
-    fs::create_dir_all(&images).expect("the folder is made");
-    for (name, bytes) in scrub::examples() {
-        fs::write(images.join(name).with_extension("kw"), bytes).expect("the file is written");
+    let programs = Path::new(&folder).join("programs");
+    fs::create_dir_all(&programs).expect("the folder is made");
+    for case in programs::cases() {
+        let put = |kind: &str, bytes: &[u8]| {
+            let path = programs.join(case.name).with_extension(kind);
+            fs::write(path, bytes).expect("the file is written");
+        };
+        put("kw", &case.input);
+        put("report", case.report.as_bytes());
+        put("scrub", &case.image);
+        put("line", case.line.as_bytes());
     }
 }
 

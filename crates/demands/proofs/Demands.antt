@@ -16,8 +16,10 @@ use Rattle.paper.specs.Scan.{Report, scan}
 use Rattle.paper.specs.Scrub.{scrub}
 use Rattle.paper.specs.Writer.{Row, planes, image, write}
 use Rattle.paper.specs.Mend.{apartVerdict, changed, wholeOf, mended, mend}
+use Rattle.paper.specs.Programs.{storedLine, scrubImage, scrubLine}
 use Rattle.demands.specs.Damage.{Protected, bitsOff, Damaged, Touched, Lost, uncorrected, ReadsBack}
 use Rattle.demands.proofs.Answer.{mends}
+use Rattle.demands.proofs.Command.{scrubbed}
 use Rattle.demands.proofs.DamageLaw.{voted-right}
 use Rattle.demands.proofs.Restores.{restored, one-source, whole-or-kept}
 use Rattle.demands.proofs.Settles.{settles-down, fresh, scrub-same}
@@ -38,6 +40,12 @@ pub restores : (rs : List Row) (payload : List ℕ) (room : ℕ) (w d : List ℕ
     → write rs payload room ≡ image w → Bytes payload → Damaged 1 w d
     → mend d ≡ mended w (scan d) (changed d w) (ltb 0 (planes rs))
 restores rs payload room w d written bytes damage = restored rs payload room w written bytes d damage
+
+-- The same of the command: an image of at most 65,536 bytes, so damaged, comes out of scrub as the writer's exact bytes, with the number of bytes that differed.
+pub command-restores : (rs : List Row) (payload : List ℕ) (room : ℕ) (w d : List ℕ)
+    → write rs payload room ≡ image w → Bytes payload → Damaged 1 w d → length w ≤ 65536
+    → (scrubImage d ≡ w) × (scrubLine d ≡ storedLine (changed d w))
+command-restores rs payload room w d written bytes damage short = scrubbed w d damage short (restores rs payload room w d written bytes damage)
 
 -- No damaged image of the allowed kind comes from two different plans or payloads.
 pub one-origin : (rs rs′ : List Row) (payload payload′ : List ℕ) (room room′ : ℕ) (w w′ d : List ℕ)

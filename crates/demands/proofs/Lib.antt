@@ -1,3 +1,4 @@
+pub mod Command
 pub mod Demands
 pub mod Distance
 pub mod Answer

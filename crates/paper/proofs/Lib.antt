@@ -12,3 +12,4 @@ pub mod CopiesLaw
 pub mod ParseLaw
 pub mod ScanLaw
 pub mod PlaneLaw
+pub mod ProgramsLaw

@@ -10,7 +10,8 @@ use Rattle.paper.specs.Programs.{imageOf, lineOf}
 use Rattle.repair.specs.Answers.{asMended}
 use Rattle.repair.specs.declared.mending.MendResult.{MendResult}
 use Rattle.io.proofs.Counting.{counts}
-use Rattle.lines.proofs.TextLaw.{line-put, line-long, image-long, left-long, line-short, image-short, left-short}
+use Rattle.paper.proofs.ProgramsLaw.{line-long, image-long, line-short, image-short}
+use Rattle.lines.proofs.TextLaw.{line-put, left-long, left-short}
 use Rattle.lines.proofs.scrub.Statement.{statement}
 use Rattle.lines.proofs.scrub.Tie as tie
 

@@ -1,0 +1,45 @@
+-- What the programs print of an input that is too long, and of one that is looked at. Assumes nothing.
+use mathlib.Core.Path.{_≡_, sym, ap}
+use mathlib.Core.Bool.{Bool, true, false, cond}
+use mathlib.Core.List.{List, []}
+use Prim.Native.Nat.{ℕ, _≤_, _<_}
+use lib.ListN.{length}
+use borrow.Author.Tests.{lt-ltb, le-ltb}
+use Rattle.paper.specs.Parse.{parse}
+use Rattle.paper.specs.Scan.{scan}
+use Rattle.paper.specs.Mend.{mend}
+use Rattle.paper.specs.Programs.{tooLong, tooLongLine, linesOf, reportText, imageOf, lineOf, scrubImage, scrubLine}
+
+module _ (x : List ℕ) (long : 65536 < length x) where
+  pub too-long : tooLong x ≡ true
+  unfolding tooLong
+  too-long = lt-ltb 65536 (length x) long
+
+  pub report-long : tooLongLine ≡ reportText x
+  unfolding reportText
+  report-long = sym (ap (λ (t : Bool). cond t tooLongLine (linesOf (parse x) (scan x))) too-long)
+
+  pub line-long : tooLongLine ≡ scrubLine x
+  unfolding scrubLine
+  line-long = sym (ap (λ (t : Bool). cond t tooLongLine (lineOf (mend x))) too-long)
+
+  pub image-long : [] ≡ scrubImage x
+  unfolding scrubImage
+  image-long = sym (ap (λ (t : Bool). cond t [] (imageOf (mend x))) too-long)
+
+module _ (x : List ℕ) (short : length x ≤ 65536) where
+  pub looked-at : tooLong x ≡ false
+  unfolding tooLong
+  looked-at = le-ltb 65536 (length x) short
+
+  pub report-short : linesOf (parse x) (scan x) ≡ reportText x
+  unfolding reportText
+  report-short = sym (ap (λ (t : Bool). cond t tooLongLine (linesOf (parse x) (scan x))) looked-at)
+
+  pub line-short : lineOf (mend x) ≡ scrubLine x
+  unfolding scrubLine
+  line-short = sym (ap (λ (t : Bool). cond t tooLongLine (lineOf (mend x))) looked-at)
+
+  pub image-short : imageOf (mend x) ≡ scrubImage x
+  unfolding scrubImage
+  image-short = sym (ap (λ (t : Bool). cond t [] (imageOf (mend x))) looked-at)
