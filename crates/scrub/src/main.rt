@@ -1,6 +1,7 @@
 // scrub: the image on standard input, mended, to standard output, and how many bytes changed to standard error. (FORMAT 11)
 
 fn main() {
+    // One byte more than the longest input that is mended, so that a longer one shows.
     let mut buffer = [0u8; 65537];
     if os::arg_count() > 1 {
         io::write_all(libc::STDERR_FILENO, b"usage: scrub <IMAGE >MENDED\n");
@@ -21,7 +22,9 @@ fn scrub(image: &mut [u8]) {
     let printed = lines::scrub(image, &mut line);
     let n = printed.image;
     let k = printed.line;
-    if streams::write_output(&image[..n], b"scrub: standard output") {
-        io::write_all(libc::STDERR_FILENO, &line[..k]);
+    if !io::write_all(libc::STDOUT_FILENO, &image[..n]) {
+        os::fail(b"scrub: standard output");
+        return;
     }
+    io::write_all(libc::STDERR_FILENO, &line[..k]);
 }

@@ -1,5 +1,5 @@
-// Standard input and output, for the programs. No contract can say what a call reads or writes; proved is that each function ends, and
-// that a count lies within its buffer.
+// Standard input, for the programs. No contract can say what a call of the system reads; proved is that the function ends, and that
+// its count lies within the buffer.
 ghost use Rattle.io.specs.Counts.{Counts};
 
 // The bytes read, from the start of the buffer on, and whether a read failed before the input's end.
@@ -34,13 +34,4 @@ pub fn read_input(buffer: &mut [u8]) -> Input
         length: n,
         failed: false,
     }
-}
-
-// Writes bytes to standard output; says on standard error, after the given name, why it can't.
-pub fn write_output(bytes: &[u8], name: &[u8]) -> bool {
-    let written = io::write_all(libc::STDOUT_FILENO, bytes);
-    if !written {
-        os::fail(name);
-    }
-    written
 }
