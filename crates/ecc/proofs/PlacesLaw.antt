@@ -1,8 +1,8 @@
 -- The table of check bytes: how it is filled, and that a word's check byte is the exclusive-or of its eight entries. Assumes nothing.
 use mathlib.Core.Path.{_≡_, refl, sym, ap, ap₂, _∙_}
-use mathlib.Core.List.{List}
+use mathlib.Core.List.{List, [], _∷_}
 use Prim.Native.Nat.{ℕ, zero, suc, _+_, _*_, _/_, _%_, _^_, _≤_, _<_}
-use native.Mathlib.Nat.{one-mul, mul-one, zero-mul, div-one, mod-lt, mod-eq-of-lt, mul-comm, pow-suc}
+use native.Mathlib.Nat.{one-mul, mul-one, zero-mul, div-one, mul-assoc, mul-comm, mul-mod-left, mul-div-cancel, mod-lt, pow-suc}
 use native.Mathlib.Numerals.{add-one}
 use native.Mathlib.Omega.{arith}
 use borrow.Author.Count.{below-more}
@@ -10,12 +10,14 @@ use lib.Dec.{lit<}
 use lib.Bits.{bitXor, xor-comm, xor-shifted}
 use lib.ListN.{length, take, set, length-set}
 use lib.Seq.{ext-getD, getD-set-same, getD-set-other}
-use lib.Pow.{shl-exact, pow-add, pow-mono, pow-pos, mod-pow-add}
+use lib.Pow.{shl-exact, pow-add, pow-mono, pow-pos, mod-pow-add, split}
+use Rattle.bits.specs.Bit.{isOne, bit}
+use Rattle.bits.specs.Linear.{pick, syn}
 use Rattle.bits.proofs.LinearLaw.{xor-shl, syn-xor, syn-zero}
-use Rattle.paper.specs.Bytes.{at, wordAt, tab, Bytes}
+use Rattle.paper.specs.Bytes.{at, wordAt, tab}
 use Rattle.paper.specs.Parity.{columns, checkOf, Class, classOf, syndrome, decode, outcomeAs, outcome}
 use Rattle.paper.specs.Scan.{report, sliceWords, sliceScan}
-use Rattle.paper.proofs.BytesLaw.{length-tab, getD-tab, tab-ext, read-lt}
+use Rattle.paper.proofs.BytesLaw.{length-tab, getD-tab, tab-ext}
 use Rattle.paper.proofs.ParityLaw.{check-linear}
 use Rattle.ecc.specs.Places.{placeCheck, placeChecks, Filled, placeBy, placesBy, checkBy, decodeBy, outcomeBy, sliceScanBy}
 
@@ -92,6 +94,20 @@ unfolding checkBy placesBy
 eight t w p q r s u v x y =
     ap₂ bitXor (ap₂ bitXor (ap₂ bitXor (ap₂ bitXor (ap₂ bitXor (ap₂ bitXor (ap₂ bitXor p q) r) s) u) v) x) y
 
+syn-past : (cs : List ℕ) (n : ℕ) → syn cs (n * 2 ^ length cs) ≡ 0
+unfolding syn bit
+syn-past [] n = refl
+syn-past (c ∷ cs) n =
+    ap (λ (w : ℕ). bitXor (pick (isOne (w % 2)) c) (syn cs (w / 2))) shifted
+    ∙ ap₂ (λ (x y : ℕ). bitXor (pick (isOne x) c) (syn cs y)) (mul-mod-left m 2) (mul-div-cancel m (lit< tt))
+    ∙ syn-past cs n
+  where
+    m : ℕ
+    m = n * 2 ^ length cs
+
+    shifted : n * 2 ^ suc (length cs) ≡ m * 2
+    shifted = ap (λ (k : ℕ). n * k) (pow-suc 2 (length cs)) ∙ sym (mul-assoc n (2 ^ length cs) 2)
+
 module _ (w : ℕ) where
   place-entry : (k : ℕ) → k < 8 → placeBy placeChecks w k ≡ checkOf (w / 2 ^ (8 * k) % 256 * 2 ^ (8 * k))
   unfolding placeChecks
@@ -114,23 +130,31 @@ module _ (w : ℕ) where
       ∙ xor-shifted q (8 * suc k) (w % 2 ^ (8 * suc k)) (mod-lt w (pow-pos (8 * suc k)))
       ∙ sym (mod-pow-add w 8 (8 * suc k)) ∙ ap (λ (i : ℕ). w % 2 ^ i) n)
 
-  pub places-check : w < 2 ^ 64 → checkBy placeChecks w ≡ checkOf w
-  unfolding checkBy
-  places-check h = places-low 7 (lit< tt) ∙ ap checkOf (mod-eq-of-lt h)
+  -- bits past the columns count for nothing
+  low-bits : checkOf (w % 2 ^ 64) ≡ checkOf w
+  unfolding checkOf columns
+  low-bits =
+      sym (ap (λ (n : ℕ). bitXor n (syn (take 64 columns) (w % 2 ^ 64))) (syn-past (take 64 columns) (w / 2 ^ 64)))
+      ∙ sym (syn-xor (take 64 columns) (w / 2 ^ 64 * 2 ^ 64) (w % 2 ^ 64))
+      ∙ ap (syn (take 64 columns)) (xor-shifted (w / 2 ^ 64) 64 (w % 2 ^ 64) (mod-lt w (pow-pos 64)) ∙ split w 64)
 
-  module _ (c : ℕ) (h : w < 2 ^ 64) where
+  pub places-check : checkBy placeChecks w ≡ checkOf w
+  unfolding checkBy
+  places-check = places-low 7 (lit< tt) ∙ low-bits
+
+  module _ (c : ℕ) where
     pub places-decode : decodeBy placeChecks w c ≡ decode w c
     unfolding decodeBy decode syndrome
-    places-decode = ap (λ (k : ℕ). classOf (bitXor k c)) (places-check h)
+    places-decode = ap (λ (k : ℕ). classOf (bitXor k c)) places-check
 
     pub places-outcome : outcomeBy placeChecks w c ≡ outcome w c
     unfolding outcomeBy outcome
     places-outcome = ap (λ (k : Class). outcomeAs k w) places-decode
 
 -- the words of a run of bytes
-pub places-scan : (x plane : List ℕ) → Bytes x → sliceScanBy placeChecks x plane ≡ sliceScan x plane
+pub places-scan : (x plane : List ℕ) → sliceScanBy placeChecks x plane ≡ sliceScan x plane
 unfolding sliceScanBy sliceScan
-places-scan x plane b =
+places-scan x plane =
     ap report
     (tab-ext (sliceWords x plane) (λ w. decodeBy placeChecks (wordAt x w) (at plane w)) (λ w. decode (wordAt x w) (at plane w))
-    (λ w h. places-decode (wordAt x w) (at plane w) (read-lt 8 x (8 * w) b)))
+    (λ w h. places-decode (wordAt x w) (at plane w)))
