@@ -1,12 +1,17 @@
 // (72,64) Hsiao SECDED, after ecc.rs: one check byte for each 64-bit word, in a plane beside the data.
+mod places;
+
 ghost use mathlib.Core.Path.{_≡_};
 ghost use mathlib.Core.Bool.{_&&_};
-ghost use Prim.Native.Nat.{_*_, _≤_};
+ghost use Prim.Native.Nat.{_-_, _*_, _≤_};
 ghost use lib.Dec.{eqb, ltb};
 ghost use lib.ListN.{length};
-ghost use Rattle.paper.specs.Parity.{columns, find, checkOf, outcome, planeKind};
-ghost use Rattle.paper.specs.Scan.{sliceWords, sliceWord, sliceScan};
-ghost use Rattle.ecc.specs.Answers.{asOutcome, asWord, asReport, oneIfCorrected, oneIfLost};
+ghost use Rattle.paper.specs.Parity.{columns, find, checkOf, classOf, outcomeAs, outcome, planeKind};
+ghost use Rattle.paper.specs.Scan.{isCorrected, isLost, sliceWords, sliceWord, sliceScan};
+ghost use Rattle.ecc.specs.Answers.{asOutcome, asWord, asReport, classOfBit};
+ghost use Rattle.ecc.specs.Places.{outcomeBy, sliceScanBy};
+pub use places::check_by;
+pub use places::place_checks;
 
 // Number of check bits per word.
 pub const CHECK_BITS: usize = 8;
@@ -121,32 +126,41 @@ pub enum WordStatus {
     Uncorrectable,
 }
 
-// The place of the syndrome among the columns, or 72.
+// The place of the syndrome among the columns, or 72. The loop always runs to its end, which is compiled to wide compares.
 fn column_of(syndrome: u8) -> usize
     ensures { λ r. ⌜ (r ≡ find syndrome columns) × (r ≤ 72) ⌝ }
 {
     let table = COLUMNS;
-    let mut i: usize = 0;
+    let mut left: u8 = 0;
+    let mut i: u8 = 0;
     while i < 72 {
-        if table[i] == syndrome {
-            return i;
+        if table[i as usize] == syndrome {
+            left |= 72 - i;
         }
         i += 1;
     }
-    72
+    72 - (left as usize)
 }
 
-pub fn decode_word(data: u64, check: u8) -> WordStatus
-    ensures { λ r. ⌜ asOutcome r ≡ outcome «data» check ⌝ }
+// The one bit of the 72 whose flip leaves this syndrome, which is not 0; 72 where there is none.
+fn flipped_bit(syndrome: u8) -> usize
+    requires { ⌜ (syndrome ≡ 0 → ⊥) ⌝ }
+    ensures { λ r. ⌜ (classOf syndrome ≡ classOfBit r) × (r ≤ 72) ⌝ }
 {
-    let syndrome = check_byte(data) ^ check;
+    if u8::count_ones(syndrome) % 2 == 0 {
+        return 72;
+    }
+    column_of(syndrome)
+}
+
+// What a syndrome says of a word.
+fn status_of(data: u64, syndrome: u8) -> WordStatus
+    ensures { λ r. ⌜ asOutcome r ≡ outcomeAs (classOf syndrome) «data» ⌝ }
+{
     if syndrome == 0 {
         return WordStatus::Clean(data);
     }
-    if u8::count_ones(syndrome) % 2 == 0 {
-        return WordStatus::Uncorrectable;
-    }
-    let i = column_of(syndrome);
+    let i = flipped_bit(syndrome);
     if i < 64 {
         return WordStatus::Corrected(data ^ (1u64 << i));
     }
@@ -155,6 +169,19 @@ pub fn decode_word(data: u64, check: u8) -> WordStatus
         return WordStatus::Corrected(data);
     }
     WordStatus::Uncorrectable
+}
+
+pub fn decode_word(data: u64, check: u8) -> WordStatus
+    ensures { λ r. ⌜ asOutcome r ≡ outcome «data» check ⌝ }
+{
+    status_of(data, check_byte(data) ^ check)
+}
+
+// The same by a table of check bytes, for many words: place_checks fills it once.
+pub fn decode_by(table: &[u8; 2048], data: u64, check: u8) -> WordStatus
+    ensures { λ r. ⌜ asOutcome r ≡ outcomeBy (now (table .entry)) «data» check ⌝ }
+{
+    status_of(data, check_by(table, data) ^ check)
 }
 
 // What a scan found: words examined, words with a corrected fault, words with more faults than one.
@@ -209,29 +236,17 @@ pub fn plane_word(parity: &[u8], data: &[u8], index: usize) -> PlaneWord
     PlaneWord::Word(decode_word(scalar::u64_or_zero(data, 8 * index), parity[index]))
 }
 
-fn one_if_corrected(status: WordStatus) -> usize
-    ensures { λ r. ⌜ (r ≡ oneIfCorrected (asOutcome status)) × (r ≤ 1) ⌝ }
+// What a word whose syndrome is not 0 adds to the corrected ones; it adds the rest of 1 to the uncorrectable ones.
+fn one_if_corrected(syndrome: u8) -> usize
+    requires { ⌜ (syndrome ≡ 0 → ⊥) ⌝ }
+    ensures { λ r. ⌜ (r ≡ isCorrected (classOf syndrome)) × (1 - r ≡ isLost (classOf syndrome)) × (r ≤ 1) ⌝ }
 {
-    match status {
-        WordStatus::Clean(_) => 0,
-        WordStatus::Corrected(_) => 1,
-        WordStatus::Uncorrectable => 0,
-    }
+    if flipped_bit(syndrome) < 72 { 1 } else { 0 }
 }
 
-fn one_if_lost(status: WordStatus) -> usize
-    ensures { λ r. ⌜ (r ≡ oneIfLost (asOutcome status)) × (r ≤ 1) ⌝ }
-{
-    match status {
-        WordStatus::Clean(_) => 0,
-        WordStatus::Corrected(_) => 0,
-        WordStatus::Uncorrectable => 1,
-    }
-}
-
-// Every word of the data that has its byte in the plane.
-pub fn plane_scan(parity: &[u8], data: &[u8]) -> EccReport
-    ensures { λ r. ⌜ asReport r ≡ sliceScan (now («data» .entry)) (now (parity .entry)) ⌝ }
+// Every word of the data that has its byte in the plane, by a table of check bytes.
+pub fn plane_scan_by(table: &[u8; 2048], parity: &[u8], data: &[u8]) -> EccReport
+    ensures { λ r. ⌜ asReport r ≡ sliceScanBy (now (table .entry)) (now («data» .entry)) (now (parity .entry)) ⌝ }
 {
     let words = plane_words(parity, data);
     let mut corrected: usize = 0;
@@ -239,12 +254,12 @@ pub fn plane_scan(parity: &[u8], data: &[u8]) -> EccReport
     let mut w: usize = 0;
     while w < words {
         let word = scalar::u64_or_zero(data, 8 * w);
-        let check = parity[w];
-        // A clean word, which nearly every one is, is told by its check byte and counts for nothing.
-        if check_byte(word) != check {
-            let status = decode_word(word, check);
-            corrected += one_if_corrected(status);
-            uncorrectable += one_if_lost(status);
+        let syndrome = check_by(table, word) ^ parity[w];
+        // A clean word, which nearly every one is, counts for nothing.
+        if syndrome != 0 {
+            let one = one_if_corrected(syndrome);
+            corrected += one;
+            uncorrectable += 1 - one;
         }
         w += 1;
     }
@@ -253,4 +268,13 @@ pub fn plane_scan(parity: &[u8], data: &[u8]) -> EccReport
         corrected,
         uncorrectable,
     }
+}
+
+// The same by a table of its own.
+pub fn plane_scan(parity: &[u8], data: &[u8]) -> EccReport
+    ensures { λ r. ⌜ asReport r ≡ sliceScan (now («data» .entry)) (now (parity .entry)) ⌝ }
+{
+    let mut table = [0u8; 2048];
+    place_checks(&mut table);
+    plane_scan_by(&table, parity, data)
 }
