@@ -4,5 +4,6 @@ pub mod ScrubbingLaw
 pub mod RunLaw
 pub mod ApartLaw
 pub mod SettleLaw
+pub mod MetLaw
 pub mod MendingLaw
 pub mod OneAnswer

@@ -19,7 +19,7 @@ use Rattle.paper.specs.Views.{seen, nth, regionAt}
 use Rattle.paper.specs.Scan.{Pair, pairsFrom, pairsWith, classAt, isCorrected, isLost, planeOf, found, isProtected, regionPairs}
 use Rattle.paper.specs.Scrub.{State, storedWord, scrubWord, scrubWords, visited, scrubFirst, scrubRegion, scrubFrom, Scrubbed, reported, scrub}
 use Rattle.paper.proofs.ParseLaw.{accepted-long}
-use Rattle.repair.specs.declared.scrubbing.Counts.{Counts}
+use Rattle.repair.specs.declared.counts.Counts.{Counts}
 use Rattle.repair.specs.Answers.{asState, scrubIn, Room, counted}
 use Rattle.scan.proofs.TotalLaw.{or-false}
 use Rattle.repair.proofs.NthLaw.{nth-gone, nth-there}

@@ -1,26 +1,30 @@
 // Mend: every header copy becomes the vote, every corrected word is stored with its check byte, nothing else moves. (FORMAT 10)
 ghost use mathlib.Core.Path.{_≡_};
 ghost use mathlib.Core.Bool.{cond};
-ghost use Prim.Native.Nat.{ℕ, _+_, _*_, _<_, _≤_};
+ghost use Prim.Native.Nat.{ℕ, _+_, _*_, _^_, _<_, _≤_};
 ghost use lib.Dec.{eqb};
 ghost use lib.ListN.{length, set};
 ghost use Rattle.paper.specs.Bytes.{at};
 ghost use Rattle.paper.specs.Refusals.{fine};
 ghost use Rattle.paper.specs.Layout.{count, headerLength};
 ghost use Rattle.paper.specs.Parse.{parseVerdict};
-ghost use Rattle.paper.specs.Scan.{pairsFrom, scan};
+ghost use Rattle.paper.specs.Scan.{pairsFrom};
 ghost use Rattle.paper.specs.Mend as paper;
 ghost use Rattle.laws.specs.Steps.{copyVote, copyVotes, mendHeader, mendWords};
 ghost use Rattle.scan.specs.Answers.{asScan};
-ghost use Rattle.repair.specs.Answers.{asMended, asMending, leftBy, correctedIn};
+ghost use Rattle.repair.specs.Runs.{pairsAt, visitsAt};
+ghost use Rattle.repair.specs.Answers.{asMended, asMending, leftBy, Room, visitedBy, plus, met, scanned};
 use super::apart::Check;
 use super::apart::check_apart;
+use super::counts::Counts;
+use super::counts::count_word;
+use super::counts::report;
+use super::counts::visit;
 use super::runs::run_of;
 use super::words::fix_word;
 use error::Refusal;
 use scalar::maj3;
 use scan::Scan;
-use scan::verify_all;
 use view::Header;
 use view::ParseResult;
 use view::parse;
@@ -92,38 +96,53 @@ fn mend_header(bytes: &mut [u8], region_count: u16) -> usize
 }
 
 // n words from word on, with check bytes from check on, ascending.
-fn fix_words(bytes: &mut [u8], word: usize, check: usize, n: usize)
-    requires { ⌜ (8 * (word + n) ≤ length (now bytes)) × (check + n ≤ length (now bytes)) ⌝ }
-    ensures { λ r. ⌜ now (bytes .exit) ≡ paper.fixAll (pairsFrom n word check) (now (bytes .entry)) ⌝ }
+fn fix_words(bytes: &mut [u8], word: usize, check: usize, n: usize, counts: Counts) -> Counts
+    requires { ⌜ (8 * (word + n) ≤ length (now bytes)) × (check + n ≤ length (now bytes)) × Room n counts ⌝ }
+    ensures leaves { λ r. ⌜ now (bytes .exit) ≡ paper.fixAll (pairsFrom n word check) (now (bytes .entry)) ⌝ }
+    ensures tells { λ r. ⌜ r ≡ plus counts (met (now (bytes .entry)) (pairsFrom n word check)) ⌝ }
+    ensures grows { λ r. ⌜ (r .words ≤ counts .words + n) × Room 0 r ⌝ }
 {
+    let mut total = counts;
     let mut k: usize = 0;
     while k < n {
-        fix_word(bytes, word + k, check + k);
+        let status = fix_word(bytes, word + k, check + k);
+        total = count_word(total, status);
         k += 1;
     }
+    total
 }
 
-// Every examined word.
-fn mend_words(bytes: &mut [u8], header: Header)
+// Entry i of the image as it stands, if there is one.
+fn mend_region(bytes: &mut [u8], header: Header, i: u16, counts: Counts) -> Counts
+    requires { ⌜ Room (2 ^ 32) counts ⌝ }
+    ensures leaves { λ r. ⌜ now (bytes .exit) ≡ paper.fixAll (pairsAt (header .«region_count») (now (bytes .entry)) i) (now (bytes .entry)) ⌝ }
+    ensures tells { λ r. ⌜ r ≡ plus (visitedBy counts (visitsAt (header .«region_count») (now (bytes .entry)) i)) (met (now (bytes .entry)) (pairsAt (header .«region_count») (now (bytes .entry)) i)) ⌝ }
+    ensures grows { λ r. ⌜ (r .words ≤ counts .words + 2 ^ 32) × Room 0 r ⌝ }
+{
+    let run = run_of(bytes, header, i);
+    let total = visit(counts, run.visited);
+    fix_words(bytes, run.word, run.check, run.words, total)
+}
+
+// Every examined word, and what a scan would have counted: regions are laid apart, so no word is met that another's repair moved.
+fn mend_words(bytes: &mut [u8], header: Header) -> Counts
     requires { ⌜ (header .«region_count» ≡ count (now bytes)) × (paper.mendVerdict (now bytes) ≡ fine) ⌝ }
-    ensures { λ r. ⌜ now (bytes .exit) ≡ mendWords (now (bytes .entry)) ⌝ }
+    ensures leaves { λ r. ⌜ now (bytes .exit) ≡ mendWords (now (bytes .entry)) ⌝ }
+    ensures tells { λ r. ⌜ r ≡ scanned (now (bytes .entry)) ⌝ }
 {
     let n = header.region_count;
+    let mut counts = Counts {
+        any: false,
+        words: 0,
+        corrected: 0,
+        uncorrectable: 0,
+    };
     let mut i: u16 = 0;
     while i < n {
-        let run = run_of(bytes, header, i);
-        fix_words(bytes, run.word, run.check, run.words);
+        counts = mend_region(bytes, header, i, counts);
         i += 1;
     }
-}
-
-fn corrected_in(report: Scan) -> usize
-    ensures { λ r. ⌜ r ≡ correctedIn (asScan report) ⌝ }
-{
-    match report {
-        Scan::Report(counts) => counts.corrected,
-        Scan::Nothing => 0,
-    }
+    counts
 }
 
 // Nothing is whole without a report.
@@ -136,21 +155,18 @@ fn is_whole(report: Scan) -> bool
     }
 }
 
-// Of an image whose regions are laid apart. The words are passed a second time only where one of them is to be stored.
+// Of an image whose regions are laid apart. The words are passed once: the header's votes move none of them.
 fn mend_apart(bytes: &mut [u8], header: Header) -> Mending
     requires { ⌜ (header .«region_count» ≡ count (now bytes)) × (paper.mendVerdict (now bytes) ≡ fine) ⌝ }
     ensures is { λ r. ⌜ asMending r (now (bytes .exit)) ≡ paper.mend (now (bytes .entry)) ⌝ }
     ensures leaves { λ r. ⌜ now (bytes .exit) ≡ paper.mendBytes (now (bytes .entry)) ⌝ }
 {
-    let report = verify_all(bytes, header);
     let in_header = mend_header(bytes, header.region_count);
-    let in_words = corrected_in(report);
-    if in_words != 0 {
-        mend_words(bytes, header);
-    }
+    let counts = mend_words(bytes, header);
+    let report = report(counts);
     Mending {
         report,
-        stored: in_header + in_words,
+        stored: in_header + counts.corrected,
         whole: is_whole(report),
     }
 }

@@ -1,56 +1,21 @@
 // Scrub, as the Rust has it: corrected words are written, counts are handed back. (FORMAT 8)
 ghost use mathlib.Core.Path.{_≡_};
-ghost use mathlib.Core.Bool.{_||_};
 ghost use Prim.Native.Nat.{ℕ, _+_, _*_, _^_, _<_, _≤_};
 ghost use lib.ListN.{length};
 ghost use Rattle.paper.specs.Scan.{pairsFrom};
 ghost use Rattle.scan.specs.Answers.{asScan};
 ghost use Rattle.paper.specs.Scrub as paper;
-ghost use Rattle.ecc.specs.Answers.{asOutcome};
-ghost use Rattle.repair.specs.Answers.{asState, scrubIn, Room, counted, reportedBy};
+ghost use Rattle.repair.specs.Answers.{asState, scrubIn, Room};
+use super::counts::Counts;
+use super::counts::count_word;
+use super::counts::report;
+use super::counts::visit;
 use super::runs::run_of;
 use super::words::scrub_word;
-use ecc::EccReport;
-use ecc::WordStatus;
 use scan::Scan;
 use view::Header;
 use view::ParseResult;
 use view::parse;
-
-// What is counted so far, and whether any region was visited.
-pub(crate) struct Counts {
-    pub any: bool,
-    pub words: usize,
-    pub corrected: usize,
-    pub uncorrectable: usize,
-}
-
-// One word more.
-fn count_word(counts: Counts, status: WordStatus) -> Counts
-    requires { ⌜ Room 1 counts ⌝ }
-    ensures { λ r. ⌜ r ≡ counted counts (asOutcome status) ⌝ }
-{
-    match status {
-        WordStatus::Clean(_) => Counts {
-            any: counts.any,
-            words: counts.words + 1,
-            corrected: counts.corrected,
-            uncorrectable: counts.uncorrectable,
-        },
-        WordStatus::Corrected(_) => Counts {
-            any: counts.any,
-            words: counts.words + 1,
-            corrected: counts.corrected + 1,
-            uncorrectable: counts.uncorrectable,
-        },
-        WordStatus::Uncorrectable => Counts {
-            any: counts.any,
-            words: counts.words + 1,
-            corrected: counts.corrected,
-            uncorrectable: counts.uncorrectable + 1,
-        },
-    }
-}
 
 // n words from word on, with check bytes from check on, ascending.
 fn scrub_words(bytes: &mut [u8], word: usize, check: usize, n: usize, counts: Counts) -> Counts
@@ -66,18 +31,6 @@ fn scrub_words(bytes: &mut [u8], word: usize, check: usize, n: usize, counts: Co
         k += 1;
     }
     total
-}
-
-// A region that is visited makes for a report.
-fn visit(counts: Counts, visited: bool) -> Counts
-    ensures { λ r. ⌜ r ≡ record { any = counts .any || visited; words = counts .words; corrected = counts .corrected; uncorrectable = counts .uncorrectable } ⌝ }
-{
-    Counts {
-        any: counts.any || visited,
-        words: counts.words,
-        corrected: counts.corrected,
-        uncorrectable: counts.uncorrectable,
-    }
 }
 
 // Entry i of the image as it stands, if there is one.
@@ -121,17 +74,4 @@ pub fn scrub(bytes: &mut [u8]) -> Scan
         i += 1;
     }
     report(counts)
-}
-
-fn report(counts: Counts) -> Scan
-    ensures { λ r. ⌜ asScan r ≡ reportedBy counts ⌝ }
-{
-    if !counts.any {
-        return Scan::Nothing;
-    }
-    Scan::Report(EccReport {
-        words: counts.words,
-        corrected: counts.corrected,
-        uncorrectable: counts.uncorrectable,
-    })
 }

@@ -47,9 +47,10 @@ pub(crate) fn scrub_word(bytes: &mut [u8], word: usize, check: usize) -> WordSta
 }
 
 // A word with its check byte, as they stand. A corrected word is written with the check byte that it has to have.
-pub(crate) fn fix_word(bytes: &mut [u8], word: usize, check: usize)
+pub(crate) fn fix_word(bytes: &mut [u8], word: usize, check: usize) -> WordStatus
     requires { ⌜ (8 * word + 8 ≤ length (now bytes)) × (check < length (now bytes)) ⌝ }
-    ensures { λ r. ⌜ now (bytes .exit) ≡ fixAt (record { word = word; check = check }) (now (bytes .entry)) ⌝ }
+    ensures is { λ r. ⌜ asOutcome r ≡ outcome (wordAt (now (bytes .entry)) word) (at (now (bytes .entry)) check) ⌝ }
+    ensures stores { λ r. ⌜ now (bytes .exit) ≡ fixAt (record { word = word; check = check }) (now (bytes .entry)) ⌝ }
 {
     let start = 8 * word;
     let end = start + 8;
@@ -62,4 +63,5 @@ pub(crate) fn fix_word(bytes: &mut [u8], word: usize, check: usize)
         }
         WordStatus::Uncorrectable => {}
     }
+    status
 }

@@ -18,7 +18,7 @@ use Rattle.paper.specs.Scrub as paper
 use Rattle.view.specs.declared.header.Header.{Header}
 use Rattle.view.proofs.AnswersLaw.{parsed-fine, parsed-count, parsed-refused}
 use Rattle.repair.specs.Answers.{asState, scrubIn, Room}
-use Rattle.repair.specs.declared.scrubbing.Counts.{Counts}
+use Rattle.repair.specs.declared.counts.Counts.{Counts}
 use Rattle.repair.proofs.ScrubbingLaw.{region-is, region-same, from-next, from-failed, from-done, scrub-failed, scrub-starts}
 use Rattle.repair.proofs.scrubbing.scrub.Statement.{statement}
 use Rattle.repair.proofs.scrubbing.scrub.Tie as tie

@@ -9,7 +9,7 @@ use denote.Ref.{now}
 use Rattle.paper.specs.Scan.{Pair, pairsFrom}
 use Rattle.paper.specs.Scrub.{scrubWords}
 use Rattle.repair.specs.Answers.{asState, Room}
-use Rattle.repair.specs.declared.scrubbing.Counts.{Counts}
+use Rattle.repair.specs.declared.counts.Counts.{Counts}
 use Rattle.repair.proofs.ScrubbingLaw.{room-visit, region-run}
 use Rattle.repair.proofs.scrubbing.scrub_region.Statement.{statement}
 use Rattle.repair.proofs.scrubbing.scrub_region.Tie as tie

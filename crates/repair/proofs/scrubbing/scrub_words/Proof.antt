@@ -8,7 +8,7 @@ use Rattle.paper.specs.Scrub.{storedWord, scrubWords}
 use Rattle.ecc.specs.Answers.{asOutcome}
 use Rattle.repair.specs.Answers.{asState, Room}
 use Rattle.repair.proofs.ScrubbingLaw.{one-word, stored-length, room-next, words-next, words-done, counted-words}
-use Rattle.repair.specs.declared.scrubbing.Counts.{Counts}
+use Rattle.repair.specs.declared.counts.Counts.{Counts}
 use Rattle.repair.proofs.scrubbing.scrub_words.Statement.{statement}
 use Rattle.repair.proofs.scrubbing.scrub_words.Tie as tie
 

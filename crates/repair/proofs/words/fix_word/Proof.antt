@@ -10,7 +10,6 @@ use borrow.Rule.Slice.PartMut.{putMid}
 use Rattle.paper.proofs.BytesLaw.{length-le}
 use Rattle.ecc.specs.Answers.{asOutcome}
 use Rattle.repair.proofs.OutcomeLaw.{put-part, told-word, fix-clean, fix-lost, fix-put}
-use borrow.Author.Needs.{needs}
 use Rattle.repair.proofs.words.fix_word.Statement.{statement}
 use Rattle.repair.proofs.words.fix_word.Tie as tie
 
@@ -21,7 +20,8 @@ returns c =
     let s = u .before .before .before in
     let g = s .args in
     let x = now (g .bytes) in
-    fix-clean x (record { word = g .word; check = g .check }) _ (told-word x (g .word) (g .check) (u .u64-or-zero .result) (s .pre .0) (u .u64-or-zero .ensures) (ap asOutcome (sym (c .enum-told .given .1)) ∙ d .decode-word .ensures))
+    let e = told-word x (g .word) (g .check) (u .u64-or-zero .result) (s .pre .0) (u .u64-or-zero .ensures) (ap asOutcome (sym (c .enum-told .given .1)) ∙ d .decode-word .ensures) in
+    (told-word x (g .word) (g .check) (u .u64-or-zero .result) (s .pre .0) (u .u64-or-zero .ensures) (d .decode-word .ensures), fix-clean x (record { word = g .word; check = g .check }) _ e)
 
 same-length-2 : tie.Need-same-length-2
 same-length-2 c =
@@ -39,9 +39,12 @@ returns-2 c =
     let g = s .args in
     let x = now (g .bytes) in
     let y = set x (g .check) (k .result) in
-    ap (putMid (8 * g .word) (8 * g .word + 8 - 8 * g .word) y) (w .ensures)
-    ∙ put-part y (le 8 (t .0 .0)) (8 * g .word) (8 * g .word + 8) (omega arith) (omega (arith, length-set x (g .check) (k .result), s .pre .0)) (length-le 8 (t .0 .0) ∙ omega arith)
-    ∙ fix-put x (record { word = g .word; check = g .check }) (t .0 .0) (k .result) (told-word x (g .word) (g .check) (u .u64-or-zero .result) (s .pre .0) (u .u64-or-zero .ensures) (ap asOutcome (sym (t .1)) ∙ d .decode-word .ensures)) (k .ensures)
+    let e = told-word x (g .word) (g .check) (u .u64-or-zero .result) (s .pre .0) (u .u64-or-zero .ensures) (ap asOutcome (sym (t .1)) ∙ d .decode-word .ensures) in (
+      e,
+      ap (putMid (8 * g .word) (8 * g .word + 8 - 8 * g .word) y) (w .ensures)
+          ∙ put-part y (le 8 (t .0 .0)) (8 * g .word) (8 * g .word + 8) (omega arith) (omega (arith, length-set x (g .check) (k .result), s .pre .0)) (length-le 8 (t .0 .0) ∙ omega arith)
+          ∙ fix-put x (record { word = g .word; check = g .check }) (t .0 .0) (k .result) e (k .ensures),
+    )
 
 returns-3 : tie.Need-returns-3
 returns-3 c =
@@ -50,7 +53,8 @@ returns-3 c =
     let s = u .before .before .before in
     let g = s .args in
     let x = now (g .bytes) in
-    fix-lost x (record { word = g .word; check = g .check }) (told-word x (g .word) (g .check) (u .u64-or-zero .result) (s .pre .0) (u .u64-or-zero .ensures) (ap asOutcome (sym (c .enum-told2 .given .1)) ∙ d .decode-word .ensures))
+    let e = told-word x (g .word) (g .check) (u .u64-or-zero .result) (s .pre .0) (u .u64-or-zero .ensures) (ap asOutcome (sym (c .enum-told2 .given .1)) ∙ d .decode-word .ensures) in
+    (told-word x (g .word) (g .check) (u .u64-or-zero .result) (s .pre .0) (u .u64-or-zero .ensures) (d .decode-word .ensures), fix-lost x (record { word = g .word; check = g .check }) e)
 
 pub fix-word-spec : {M : Type 1} → statement M
 fix-word-spec =

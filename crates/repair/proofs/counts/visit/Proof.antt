@@ -1,7 +1,7 @@
--- `repair::scrubbing::visit` meets its contract. Assumes nothing.
+-- `repair::counts::visit` meets its contract. Assumes nothing.
 use Prim.Native.Nat.{_-_}
-use Rattle.repair.proofs.scrubbing.visit.Statement.{statement}
-use Rattle.repair.proofs.scrubbing.visit.Tie as tie
+use Rattle.repair.proofs.counts.visit.Statement.{statement}
+use Rattle.repair.proofs.counts.visit.Tie as tie
 
 returns : tie.Need-returns
 returns c = rw (c .if1 .taken)
