@@ -3,6 +3,7 @@ pub mod NthLaw
 pub mod ScrubbingLaw
 pub mod RunLaw
 pub mod ApartLaw
+pub mod SpanLaw
 pub mod SettleLaw
 pub mod MetLaw
 pub mod MendingLaw
