@@ -1,2 +1,3 @@
 pub mod PlaneLaw
+pub mod PlacesLaw
 pub mod OneAnswer

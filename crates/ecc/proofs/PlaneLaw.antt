@@ -6,16 +6,17 @@ use Prim.Native.Nat.{ℕ, _+_, _*_, _≤_, _<_}
 use native.Mathlib.Numerals.{add-one}
 use native.Mathlib.Omega.{arith}
 use borrow.Author.Tests.{lt-ltb, le-ltb}
+use lib.Bits.{bitXor}
 use lib.ListN.{length, drop}
 use lib.Seq.{drop-length}
 use Rattle.paper.specs.Bytes.{at, readIn, wordAt, tab}
-use Rattle.paper.specs.Parity.{Class, clean, flipped, beyond, checkOf, decode, Outcome, outcomeAs, outcome}
-use Rattle.paper.specs.Scan.{isCorrected, isLost, total, report, sliceWords, sliceWord, sliceScan}
+use Rattle.paper.specs.Parity.{Class, clean, flipped, beyond, classOf, Outcome, outcomeAs, outcome}
+use Rattle.paper.specs.Scan.{isCorrected, isLost, total, report, sliceWords, sliceWord}
 use Rattle.paper.proofs.BytesLaw.{length-tab, drop-tab}
-use Rattle.paper.proofs.ParityLaw.{decode-clean}
 use Rattle.scalar.specs.Answers.{orZero}
 use Rattle.scalar.proofs.OrZero.{or-zero-in}
 use Rattle.ecc.specs.Answers.{oneIfCorrected, oneIfLost}
+use Rattle.ecc.specs.Places.{checkBy, decodeBy, sliceScanBy}
 
 module _ (x plane : List ℕ) where
   -- word w, past the shorter of the two and before
@@ -35,58 +36,52 @@ module _ (x plane : List ℕ) where
     pub decoded : {s : Outcome} → s ≡ outcome v (at plane w) → s ≡ outcome (wordAt x w) (at plane w)
     decoded d = d ∙ ap (λ (n : ℕ). outcome n (at plane w)) word-read
 
-    pub undamaged : {k : ℕ} → k ≡ checkOf v → k ≡ at plane w → decode (wordAt x w) (at plane w) ≡ clean
-    undamaged d m = ap (decode (wordAt x w)) (sym m ∙ d ∙ ap checkOf word-read) ∙ decode-clean (wordAt x w)
+    -- by a table
+    pub syndrome-read : (t : List ℕ) {k : ℕ} → k ≡ checkBy t v → classOf (bitXor k (at plane w)) ≡ decodeBy t (wordAt x w) (at plane w)
+    unfolding decodeBy
+    syndrome-read t d = ap (λ (n : ℕ). classOf (bitXor n (at plane w))) (d ∙ ap (checkBy t) word-read)
 
 -- ---- the report, word by word
 
--- the classes of the words
-abbrev pub classes : List ℕ → List ℕ → List Class
-classes x plane = tab (sliceWords x plane) (λ w. decode (wordAt x w) (at plane w))
-
 -- what a word counts for is read off its outcome as off its class
-pub as-corrected : (w c : ℕ) → oneIfCorrected (outcome w c) ≡ isCorrected (decode w c)
-unfolding outcome
-as-corrected w c = go (decode w c)
-  where
-    go : (k : Class) → oneIfCorrected (outcomeAs k w) ≡ isCorrected k
-    go clean = refl
-    go (flipped i) = refl
-    go beyond = refl
+pub as-corrected : (k : Class) (w : ℕ) → oneIfCorrected (outcomeAs k w) ≡ isCorrected k
+as-corrected clean w = refl
+as-corrected (flipped i) w = refl
+as-corrected beyond w = refl
 
-pub as-lost : (w c : ℕ) → oneIfLost (outcome w c) ≡ isLost (decode w c)
-unfolding outcome
-as-lost w c = go (decode w c)
-  where
-    go : (k : Class) → oneIfLost (outcomeAs k w) ≡ isLost k
-    go clean = refl
-    go (flipped i) = refl
-    go beyond = refl
+pub as-lost : (k : Class) (w : ℕ) → oneIfLost (outcomeAs k w) ≡ isLost k
+as-lost clean w = refl
+as-lost (flipped i) w = refl
+as-lost beyond w = refl
+
+-- the classes of the words by a table
+abbrev pub classes : List ℕ → List ℕ → List ℕ → List Class
+classes t x plane = tab (sliceWords x plane) (λ w. decodeBy t (wordAt x w) (at plane w))
 
 -- `n` and the count of the words from `w` on are the count of all
-abbrev pub Counted : (Class → ℕ) → List ℕ → List ℕ → ℕ → ℕ → Type 0
-Counted f x plane w n = n + total f (drop w (classes x plane)) ≡ total f (classes x plane)
+abbrev pub Counted : (Class → ℕ) → List ℕ → List ℕ → List ℕ → ℕ → ℕ → Type 0
+Counted f t x plane w n = n + total f (drop w (classes t x plane)) ≡ total f (classes t x plane)
 
-module _ (x plane : List ℕ) where
+module _ (t x plane : List ℕ) where
   one-more : (f : Class → ℕ) (w : ℕ) → w < sliceWords x plane
-      → total f (drop w (classes x plane)) ≡ f (decode (wordAt x w) (at plane w)) + total f (drop (w + 1) (classes x plane))
+      → total f (drop w (classes t x plane)) ≡ f (decodeBy t (wordAt x w) (at plane w)) + total f (drop (w + 1) (classes t x plane))
   unfolding total
-  one-more f w h = rw (add-one, drop-tab (sliceWords x plane) (λ i. decode (wordAt x i) (at plane i)) w h)
+  one-more f w h = rw (add-one, drop-tab (sliceWords x plane) (λ i. decodeBy t (wordAt x i) (at plane i)) w h)
 
-  pub turn : (f : Class → ℕ) (w n m : ℕ) → w < sliceWords x plane → m ≡ n + f (decode (wordAt x w) (at plane w))
-      → Counted f x plane w n → Counted f x plane (w + 1) m
+  pub turn : (f : Class → ℕ) (w n m : ℕ) → w < sliceWords x plane → m ≡ n + f (decodeBy t (wordAt x w) (at plane w))
+      → Counted f t x plane w n → Counted f t x plane (w + 1) m
   turn f w n m h e inv = omega (arith, one-more f w h)
 
-  length-classes : length (classes x plane) ≡ sliceWords x plane
-  length-classes = length-tab (sliceWords x plane) (λ w. decode (wordAt x w) (at plane w))
+  length-classes : length (classes t x plane) ≡ sliceWords x plane
+  length-classes = length-tab (sliceWords x plane) (λ w. decodeBy t (wordAt x w) (at plane w))
 
-  all : (f : Class → ℕ) (w n : ℕ) → w ≡ sliceWords x plane → Counted f x plane w n → n ≡ total f (classes x plane)
+  all : (f : Class → ℕ) (w n : ℕ) → w ≡ sliceWords x plane → Counted f t x plane w n → n ≡ total f (classes t x plane)
   unfolding total
   all f w n e inv =
-      let d : drop w (classes x plane) ≡ [] = ap (λ (k : ℕ). drop k (classes x plane)) (e ∙ sym length-classes) ∙ drop-length (classes x plane) in
+      let d : drop w (classes t x plane) ≡ [] = ap (λ (k : ℕ). drop k (classes t x plane)) (e ∙ sym length-classes) ∙ drop-length (classes t x plane) in
       omega (arith, ap (total f) d)
 
-  pub scanned : (w n k : ℕ) → w ≡ sliceWords x plane → Counted isCorrected x plane w n → Counted isLost x plane w k
-      → record { words = w; corrected = n; uncorrectable = k } ≡ sliceScan x plane
-  unfolding sliceScan report
+  pub scanned : (w n k : ℕ) → w ≡ sliceWords x plane → Counted isCorrected t x plane w n → Counted isLost t x plane w k
+      → record { words = w; corrected = n; uncorrectable = k } ≡ sliceScanBy t x plane
+  unfolding sliceScanBy report
   scanned w n k e f g = rw (all isCorrected w n e f, all isLost w k e g, length-classes, e)

@@ -1,12 +1,17 @@
 // (72,64) Hsiao SECDED, after ecc.rs: one check byte for each 64-bit word, in a plane beside the data.
+mod places;
+
 ghost use mathlib.Core.Path.{_≡_};
 ghost use mathlib.Core.Bool.{_&&_};
 ghost use Prim.Native.Nat.{_*_, _≤_};
 ghost use lib.Dec.{eqb, ltb};
 ghost use lib.ListN.{length};
-ghost use Rattle.paper.specs.Parity.{columns, find, checkOf, outcome, planeKind};
+ghost use Rattle.paper.specs.Parity.{columns, find, checkOf, classOf, outcomeAs, outcome, planeKind};
 ghost use Rattle.paper.specs.Scan.{sliceWords, sliceWord, sliceScan};
 ghost use Rattle.ecc.specs.Answers.{asOutcome, asWord, asReport, oneIfCorrected, oneIfLost};
+ghost use Rattle.ecc.specs.Places.{outcomeBy, sliceScanBy};
+pub use places::check_by;
+pub use places::place_checks;
 
 // Number of check bits per word.
 pub const CHECK_BITS: usize = 8;
@@ -136,10 +141,10 @@ fn column_of(syndrome: u8) -> usize
     72
 }
 
-pub fn decode_word(data: u64, check: u8) -> WordStatus
-    ensures { λ r. ⌜ asOutcome r ≡ outcome «data» check ⌝ }
+// What a syndrome says of a word.
+fn status_of(data: u64, syndrome: u8) -> WordStatus
+    ensures { λ r. ⌜ asOutcome r ≡ outcomeAs (classOf syndrome) «data» ⌝ }
 {
-    let syndrome = check_byte(data) ^ check;
     if syndrome == 0 {
         return WordStatus::Clean(data);
     }
@@ -155,6 +160,19 @@ pub fn decode_word(data: u64, check: u8) -> WordStatus
         return WordStatus::Corrected(data);
     }
     WordStatus::Uncorrectable
+}
+
+pub fn decode_word(data: u64, check: u8) -> WordStatus
+    ensures { λ r. ⌜ asOutcome r ≡ outcome «data» check ⌝ }
+{
+    status_of(data, check_byte(data) ^ check)
+}
+
+// The same by a table of check bytes, for many words: build it once, by place_checks.
+pub fn decode_by(table: &[u8; 2048], data: u64, check: u8) -> WordStatus
+    ensures { λ r. ⌜ asOutcome r ≡ outcomeBy (now (table .entry)) «data» check ⌝ }
+{
+    status_of(data, check_by(table, data) ^ check)
 }
 
 // What a scan found: words examined, words with a corrected fault, words with more faults than one.
@@ -229,9 +247,9 @@ fn one_if_lost(status: WordStatus) -> usize
     }
 }
 
-// Every word of the data that has its byte in the plane.
-pub fn plane_scan(parity: &[u8], data: &[u8]) -> EccReport
-    ensures { λ r. ⌜ asReport r ≡ sliceScan (now («data» .entry)) (now (parity .entry)) ⌝ }
+// Every word of the data that has its byte in the plane, by a table of check bytes.
+pub fn plane_scan_by(table: &[u8; 2048], parity: &[u8], data: &[u8]) -> EccReport
+    ensures { λ r. ⌜ asReport r ≡ sliceScanBy (now (table .entry)) (now («data» .entry)) (now (parity .entry)) ⌝ }
 {
     let words = plane_words(parity, data);
     let mut corrected: usize = 0;
@@ -239,10 +257,10 @@ pub fn plane_scan(parity: &[u8], data: &[u8]) -> EccReport
     let mut w: usize = 0;
     while w < words {
         let word = scalar::u64_or_zero(data, 8 * w);
-        let check = parity[w];
-        // A clean word, which nearly every one is, is told by its check byte and counts for nothing.
-        if check_byte(word) != check {
-            let status = decode_word(word, check);
+        let syndrome = check_by(table, word) ^ parity[w];
+        // A clean word, which nearly every one is, counts for nothing.
+        if syndrome != 0 {
+            let status = status_of(word, syndrome);
             corrected += one_if_corrected(status);
             uncorrectable += one_if_lost(status);
         }
@@ -253,4 +271,12 @@ pub fn plane_scan(parity: &[u8], data: &[u8]) -> EccReport
         corrected,
         uncorrectable,
     }
+}
+
+// The same by a table of its own.
+pub fn plane_scan(parity: &[u8], data: &[u8]) -> EccReport
+    ensures { λ r. ⌜ asReport r ≡ sliceScan (now («data» .entry)) (now (parity .entry)) ⌝ }
+{
+    let table = place_checks();
+    plane_scan_by(&table, parity, data)
 }

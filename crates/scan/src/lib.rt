@@ -7,11 +7,13 @@ ghost use Rattle.paper.specs.Views.{seen, regionAt, partOf, bytesSpan};
 ghost use Rattle.paper.specs.Bytes.{part};
 ghost use Rattle.paper.specs.Scan.{sliceScan, scanRegion, scanIn};
 ghost use Rattle.ecc.specs.Answers.{asReport};
+ghost use Rattle.ecc.specs.Places.{placeChecks};
 ghost use Rattle.layout.specs.Regions.{asEntry};
 ghost use Rattle.scan.specs.Answers.{Few, asScan, scanAgainst};
 ghost use Rattle.scan.specs.Totals.{asTotals, add, addAt, Small};
 use ecc::EccReport;
-use ecc::plane_scan;
+use ecc::place_checks;
+use ecc::plane_scan_by;
 use layout::Region;
 use tables::PartSpan;
 use tables::Place;
@@ -31,16 +33,26 @@ pub fn verify_region(bytes: &[u8], header: Header, region: Region) -> Scan
     ensures is { λ r. ⌜ asScan r ≡ scanRegion (header .«region_count») (now (bytes .entry)) (asEntry region) ⌝ }
     ensures few { λ r. ⌜ Few (region .«word_length») r ⌝ }
 {
+    let table = place_checks();
+    verify_by(&table, bytes, header, region)
+}
+
+// The same by a table of check bytes, which is made once for an image.
+fn verify_by(table: &[u8; 2048], bytes: &[u8], header: Header, region: Region) -> Scan
+    requires { ⌜ now table ≡ placeChecks ⌝ }
+    ensures is { λ r. ⌜ asScan r ≡ scanRegion (header .«region_count») (now (bytes .entry)) (asEntry region) ⌝ }
+    ensures few { λ r. ⌜ Few (region .«word_length») r ⌝ }
+{
     let plane = ecc_for(bytes, header, region);
     match plane {
         Place::Nothing => Scan::Nothing,
-        Place::At { start, end } => scan_against(bytes, region, start, end),
+        Place::At { start, end } => scan_against(table, bytes, region, start, end),
     }
 }
 
 // A region against the plane from start to end.
-fn scan_against(bytes: &[u8], region: Region, start: usize, end: usize) -> Scan
-    requires { ⌜ (start ≤ end) × (end ≤ length (now bytes)) ⌝ }
+fn scan_against(table: &[u8; 2048], bytes: &[u8], region: Region, start: usize, end: usize) -> Scan
+    requires { ⌜ (start ≤ end) × (end ≤ length (now bytes)) × (now table ≡ placeChecks) ⌝ }
     ensures is { λ r. ⌜ asScan r ≡ scanAgainst (now (bytes .entry)) (bytesSpan (length (now (bytes .entry))) (asEntry region)) start end ⌝ }
     ensures few { λ r. ⌜ region .«word_length» < 2 ^ 32 ⌝ }
 {
@@ -49,7 +61,7 @@ fn scan_against(bytes: &[u8], region: Region, start: usize, end: usize) -> Scan
     if bytes.len() < to {
         return Scan::Nothing;
     }
-    Scan::Report(plane_scan(&bytes[start..end], &bytes[from..to]))
+    Scan::Report(plane_scan_by(table, &bytes[start..end], &bytes[from..to]))
 }
 
 // What is counted so far, and whether any region was visited.
@@ -61,8 +73,14 @@ struct Total {
 }
 
 // One region more: it counts if it is no plane, is flagged 2 and has a plane.
-fn add_region(bytes: &[u8], header: Header, region: Region, total: Total) -> Total
-    requires { ⌜ Small 65535 total ⌝ }
+fn add_region(
+    table: &[u8; 2048],
+    bytes: &[u8],
+    header: Header,
+    region: Region,
+    total: Total,
+) -> Total
+    requires { ⌜ Small 65535 total × (now table ≡ placeChecks) ⌝ }
     ensures is { λ r. ⌜ asTotals r ≡ add (now (bytes .entry)) (seen (header .«region_count») (now (bytes .entry))) (asEntry region) (asTotals total) ⌝ }
     ensures small { λ r. ⌜ ((i : ℕ) → Small i total → Small (i + 1) r) ⌝ }
 {
@@ -72,7 +90,7 @@ fn add_region(bytes: &[u8], header: Header, region: Region, total: Total) -> Tot
     if !region.has_ecc() {
         return total;
     }
-    match verify_region(bytes, header, region) {
+    match verify_by(table, bytes, header, region) {
         Scan::Nothing => total,
         Scan::Report(report) => Total {
             any: true,
@@ -84,13 +102,13 @@ fn add_region(bytes: &[u8], header: Header, region: Region, total: Total) -> Tot
 }
 
 // Entry i, if there is one.
-fn add_entry(bytes: &[u8], header: Header, i: u16, total: Total) -> Total
-    requires { ⌜ Small i total ⌝ }
+fn add_entry(table: &[u8; 2048], bytes: &[u8], header: Header, i: u16, total: Total) -> Total
+    requires { ⌜ Small i total × (now table ≡ placeChecks) ⌝ }
     ensures is { λ r. ⌜ asTotals r ≡ addAt (now (bytes .entry)) (seen (header .«region_count») (now (bytes .entry))) (regionAt (header .«region_count») (now (bytes .entry)) i) (asTotals total) ⌝ }
     ensures small { λ r. ⌜ Small (i + 1) r ⌝ }
 {
     match region_at(bytes, header, i) {
-        RegionAt::Found(region) => add_region(bytes, header, region, total),
+        RegionAt::Found(region) => add_region(table, bytes, header, region, total),
         RegionAt::Nothing => total,
     }
 }
@@ -100,6 +118,7 @@ pub fn verify_all(bytes: &[u8], header: Header) -> Scan
     ensures { λ r. ⌜ asScan r ≡ scanIn (header .«region_count») (now (bytes .entry)) ⌝ }
 {
     let n = header.region_count;
+    let table = place_checks();
     let mut total = Total {
         any: false,
         words: 0,
@@ -108,7 +127,7 @@ pub fn verify_all(bytes: &[u8], header: Header) -> Scan
     };
     let mut i: u16 = 0;
     while i < n {
-        total = add_entry(bytes, header, i, total);
+        total = add_entry(&table, bytes, header, i, total);
         i += 1;
     }
     if !total.any {

@@ -18,8 +18,8 @@ use Rattle.scan.proofs.add_entry.Tie as tie
 add-region-requires : tie.Need-add-region-requires
 add-region-requires c κs =
     let s = c .before .before .before .before .before in
-    let t = s .pre in
-    record { words = omega (arith, t .words); corrected = t .corrected; uncorrectable = t .uncorrectable }
+    let t = s .pre .0 in
+    (record { words = omega (arith, t .words); corrected = t .corrected; uncorrectable = t .uncorrectable }, s .pre .1)
 
 returns : tie.Need-returns
 returns c =
@@ -34,7 +34,7 @@ returns c =
           ∙ ap (λ (q : Region). add x (seen n x) (asEntry q) (asTotals (g .total))) (f .2)
           ∙ add-same x (seen n x) (f .0) (asTotals (g .total))
           ∙ ap (λ (o : Option Entry). addAt x (seen n x) o (asTotals (g .total))) (sym (f .1)),
-      c .add-region .ensures .1 (g .i) (s .pre),
+      c .add-region .ensures .1 (g .i) (s .pre .0),
     )
 
 returns-2 : tie.Need-returns-2
@@ -45,7 +45,7 @@ returns-2 c =
     let n = g .header .«region_count» in
     let x = now (g .bytes) in (
       ap (λ (o : Option Entry). addAt x (seen n x) o (asTotals (g .total))) (sym (found-none (regionAt n x (g .i)) (sym (c .enum-told .given .1) ∙ r .region-at .ensures))),
-      small-same (g .i) (g .total) (s .pre),
+      small-same (g .i) (g .total) (s .pre .0),
     )
 
 pub add-entry-spec : {M : Type 1} → statement M

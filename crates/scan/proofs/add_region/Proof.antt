@@ -38,37 +38,37 @@ returns-2 c =
       λ i t. small-same i (g .total) t,
     )
 
-add-t11 : tie.Need-add-t11
-add-t11 c =
+add-t12 : tie.Need-add-t12
+add-t12 c =
     let k = c .before .before .before in
     let v = k .before .before in
     let s = v .before .before .before .before .before .before in
     let g = s .args in
-    let b = region-bounded (g .header .«region_count») (now (g .bytes)) (asEntry (g .region)) (asReport (k .report .given .0 .0)) (ap asScan (sym (k .report .given .1)) ∙ v .verify-region .ensures .0) in
-    let l : g .region .«word_length» < 2 ^ 32 = subst (Few (g .region .«word_length»)) (k .report .given .1) (v .verify-region .ensures .1) in
-    let p = s .pre in
-    omega (arith, b .words, b .corrected, b .uncorrectable, p .words, p .corrected, p .uncorrectable)
-
-add-t12 : tie.Need-add-t12
-add-t12 c =
-    let k = c .before .before .before .before .before in
-    let v = k .before .before in
-    let s = v .before .before .before .before .before .before in
-    let g = s .args in
-    let b = region-bounded (g .header .«region_count») (now (g .bytes)) (asEntry (g .region)) (asReport (k .report .given .0 .0)) (ap asScan (sym (k .report .given .1)) ∙ v .verify-region .ensures .0) in
-    let l : g .region .«word_length» < 2 ^ 32 = subst (Few (g .region .«word_length»)) (k .report .given .1) (v .verify-region .ensures .1) in
-    let p = s .pre in
+    let b = region-bounded (g .header .«region_count») (now (g .bytes)) (asEntry (g .region)) (asReport (k .report .given .0 .0)) (ap asScan (sym (k .report .given .1)) ∙ v .verify-by .ensures .0) in
+    let l : g .region .«word_length» < 2 ^ 32 = subst (Few (g .region .«word_length»)) (k .report .given .1) (v .verify-by .ensures .1) in
+    let p = s .pre .0 in
     omega (arith, b .words, b .corrected, b .uncorrectable, p .words, p .corrected, p .uncorrectable)
 
 add-t13 : tie.Need-add-t13
 add-t13 c =
+    let k = c .before .before .before .before .before in
+    let v = k .before .before in
+    let s = v .before .before .before .before .before .before in
+    let g = s .args in
+    let b = region-bounded (g .header .«region_count») (now (g .bytes)) (asEntry (g .region)) (asReport (k .report .given .0 .0)) (ap asScan (sym (k .report .given .1)) ∙ v .verify-by .ensures .0) in
+    let l : g .region .«word_length» < 2 ^ 32 = subst (Few (g .region .«word_length»)) (k .report .given .1) (v .verify-by .ensures .1) in
+    let p = s .pre .0 in
+    omega (arith, b .words, b .corrected, b .uncorrectable, p .words, p .corrected, p .uncorrectable)
+
+add-t14 : tie.Need-add-t14
+add-t14 c =
     let k = c .before .before .before .before .before .before .before in
     let v = k .before .before in
     let s = v .before .before .before .before .before .before in
     let g = s .args in
-    let b = region-bounded (g .header .«region_count») (now (g .bytes)) (asEntry (g .region)) (asReport (k .report .given .0 .0)) (ap asScan (sym (k .report .given .1)) ∙ v .verify-region .ensures .0) in
-    let l : g .region .«word_length» < 2 ^ 32 = subst (Few (g .region .«word_length»)) (k .report .given .1) (v .verify-region .ensures .1) in
-    let p = s .pre in
+    let b = region-bounded (g .header .«region_count») (now (g .bytes)) (asEntry (g .region)) (asReport (k .report .given .0 .0)) (ap asScan (sym (k .report .given .1)) ∙ v .verify-by .ensures .0) in
+    let l : g .region .«word_length» < 2 ^ 32 = subst (Few (g .region .«word_length»)) (k .report .given .1) (v .verify-by .ensures .1) in
+    let p = s .pre .0 in
     omega (arith, b .words, b .corrected, b .uncorrectable, p .words, p .corrected, p .uncorrectable)
 
 returns-3 : tie.Need-returns-3
@@ -83,7 +83,7 @@ returns-3 c =
     let x = now (g .bytes) in (
       add-without x (seen n x) (asEntry (g .region)) (asTotals (g .total))
           (protected-is (asEntry (g .region)) (sym (p .is-ecc-plane .ensures) ∙ h .before .if1 .left) (sym (h .has-ecc .ensures) ∙ not-false (h .has-ecc .result) (v .before .if2 .left)))
-          (ap asScan (sym (c .enum-told .given .1)) ∙ v .verify-region .ensures .0),
+          (ap asScan (sym (c .enum-told .given .1)) ∙ v .verify-by .ensures .0),
       λ i t. small-same i (g .total) t,
     )
 
@@ -99,11 +99,11 @@ returns-4 c =
     let n = g .header .«region_count» in
     let x = now (g .bytes) in
     let r = asReport (k .report .given .0 .0) in
-    let f : some r ≡ scanRegion n x (asEntry (g .region)) = ap asScan (sym (k .report .given .1)) ∙ v .verify-region .ensures .0 in (
+    let f : some r ≡ scanRegion n x (asEntry (g .region)) = ap asScan (sym (k .report .given .1)) ∙ v .verify-by .ensures .0 in (
       add-with x (seen n x) (asEntry (g .region)) (asTotals (g .total))
           (protected-is (asEntry (g .region)) (sym (p .is-ecc-plane .ensures) ∙ h .before .if1 .left) (sym (h .has-ecc .ensures) ∙ not-false (h .has-ecc .result) (v .before .if2 .left)))
           r f,
-      λ i t. small-more i (g .region .«word_length») (g .total) _ r (subst (Few (g .region .«word_length»)) (k .report .given .1) (v .verify-region .ensures .1))
+      λ i t. small-more i (g .region .«word_length») (g .total) _ r (subst (Few (g .region .«word_length»)) (k .report .given .1) (v .verify-by .ensures .1))
           (region-bounded n x (asEntry (g .region)) r f) refl refl refl t,
     )
 
@@ -118,8 +118,8 @@ add-region-spec =
     (λ c κs. search needs)
     (λ c. search needs)
     (λ c. search needs)
-    add-t11
     add-t12
     add-t13
+    add-t14
     returns-3
     returns-4)

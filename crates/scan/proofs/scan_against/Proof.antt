@@ -11,6 +11,8 @@ use Rattle.paper.specs.Views.{bytesSpan}
 use borrow.Author.Tests.{lt-ltb, le-ltb}
 use Rattle.paper.specs.Bytes.{part}
 use Rattle.paper.specs.Scan.{sliceScan}
+use Rattle.ecc.specs.Places.{sliceScanBy}
+use Rattle.ecc.proofs.PlacesLaw.{places-scan}
 use Rattle.layout.specs.declared.Region.{Region}
 use Rattle.layout.specs.Regions.{asEntry}
 use Rattle.scan.specs.Answers.{scanAgainst}
@@ -39,7 +41,14 @@ returns-2 : tie.Need-returns-2
 returns-2 c =
     let k = c .before .before .before in
     let g = k .before .before .before .before .args in
-    (ap some (c .plane-scan .ensures) ∙ within (now (g .bytes)) (g .region) (g .start) (g .end) (k .if1 .left), omega (arith, k .before .struct-known2 .given))
+    let x = now (g .bytes) in
+    let r = g .region in
+    let data′ = part x (8 * r .«word_offset») (8 * r .«word_offset» + 8 * r .«word_length») in
+    let plane = part x (g .start) (g .end) in (
+      ap some (c .plane-scan-by .ensures ∙ ap (λ (t : List ℕ). sliceScanBy t data′ plane) (k .before .before .before .before .pre .2) ∙ places-scan data′ plane)
+          ∙ within x r (g .start) (g .end) (k .if1 .left),
+      omega (arith, k .before .struct-known2 .given),
+    )
 
 pub scan-against-spec : {M : Type 1} → statement M
 scan-against-spec =

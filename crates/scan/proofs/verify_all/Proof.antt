@@ -2,6 +2,7 @@
 use mathlib.Core.Path.{_≡_, refl, sym, ap, _∙_}
 use Prim.Native.Nat.{_+_, _-_, _≤_}
 use native.Mathlib.Omega.{arith}
+use borrow.Author.Needs.{needs}
 use borrow.Author.Tests.{not-true, not-false}
 use denote.Ref.{now}
 use lib.ListN.{drop}
@@ -12,22 +13,22 @@ use Rattle.scan.proofs.verify_all.Statement.{statement}
 use Rattle.scan.proofs.verify_all.Tie as tie
 
 abbrev Inv-loop : tie.InvT-loop
-Inv-loop bytes header n total₀ i₀ total i = (i ≤ n) × Small i total × (addAll bytes (seen n bytes) (drop i (seen n bytes)) (asTotals total) ≡ addAll bytes (seen n bytes) (seen n bytes) noTotals)
+Inv-loop bytes header n table total₀ i₀ total i = (i ≤ n) × Small i total × (addAll bytes (seen n bytes) (drop i (seen n bytes)) (asTotals total) ≡ addAll bytes (seen n bytes) (seen n bytes) noTotals)
 
 abbrev μ-loop : tie.MeasureT-loop
-μ-loop bytes header n total₀ i₀ total i = n - i
+μ-loop bytes header n table total₀ i₀ total i = n - i
 
 loop-holds : tie.Need-loop-holds Inv-loop μ-loop
 loop-holds c = (omega arith, record { words = omega arith; corrected = omega arith; uncorrectable = omega arith }, refl)
 
 add-entry-requires : tie.Need-add-entry-requires Inv-loop μ-loop
-add-entry-requires c κs = c .before .loop .inv .1
+add-entry-requires c κs = (c .before .before .loop .inv .1, c .before .before .before .place-checks .ensures)
 
 loop-again : tie.Need-loop-again Inv-loop μ-loop
 unfolding regionAt
 loop-again c =
-    let a = c .before .before in
-    let g = a .before .before .args in
+    let a = c .before .before .before in
+    let g = a .before .before .before .args in
     let n = g .header .«region_count» in
     let x = now (g .bytes) in (
       omega arith,
@@ -39,7 +40,7 @@ loop-again c =
 returns : tie.Need-returns Inv-loop μ-loop
 returns c =
     let a = c .before .before .before in
-    let g = a .before .before .args in
+    let g = a .before .before .before .args in
     let n = g .header .«region_count» in
     let x = now (g .bytes) in
     let e : asTotals (a .loop .total) ≡ addAll x (seen n x) (seen n x) noTotals =
@@ -49,7 +50,7 @@ returns c =
 returns-2 : tie.Need-returns-2 Inv-loop μ-loop
 returns-2 c =
     let a = c .before .before .before in
-    let g = a .before .before .args in
+    let g = a .before .before .before .args in
     let n = g .header .«region_count» in
     let x = now (g .bytes) in
     let e : asTotals (a .loop .total) ≡ addAll x (seen n x) (seen n x) noTotals =
@@ -62,6 +63,7 @@ verify-all-spec =
     (tie.spec
     Inv-loop
     μ-loop
+    (λ c κs. search needs)
     loop-holds
     add-entry-requires
     (λ c. omega arith)

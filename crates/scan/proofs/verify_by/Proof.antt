@@ -1,4 +1,4 @@
--- `scan::verify_region` meets its contract. Assumes nothing.
+-- `scan::verify_by` meets its contract. Assumes nothing.
 use mathlib.Core.Path.{sym, ap, _∙_}
 use Prim.Native.Nat.{ℕ, _-_, _^_, _<_}
 use borrow.Author.Needs.{needs}
@@ -11,8 +11,8 @@ use Rattle.tables.specs.Answers.{asPlace}
 use Rattle.scan.specs.declared.Scan.{Scan}
 use Rattle.scan.specs.Answers.{Few}
 use Rattle.scan.proofs.RegionLaw.{place-fits, without-plane, against-plane}
-use Rattle.scan.proofs.verify_region.Statement.{statement}
-use Rattle.scan.proofs.verify_region.Tie as tie
+use Rattle.scan.proofs.verify_by.Statement.{statement}
+use Rattle.scan.proofs.verify_by.Tie as tie
 
 few : (w : ℕ) (r : Scan) → w < 2 ^ 32 → Few w r
 few w (Report s) h = h
@@ -25,7 +25,8 @@ scan-against-requires c κs =
     let e = p .before .before in
     let g = e .before .before .args in
     let x = now (g .bytes) in
-    place-fits (length x) (firstThat (planeFor (g .region .kind)) (seen (g .header .«region_count») x)) _ _ (ap asPlace (sym (p .plane .given .1)) ∙ e .ecc-for .ensures)
+    let f = place-fits (length x) (firstThat (planeFor (g .region .kind)) (seen (g .header .«region_count») x)) _ _ (ap asPlace (sym (p .plane .given .1)) ∙ e .ecc-for .ensures) in
+    (f .0, f .1, e .before .before .pre)
 
 returns : tie.Need-returns
 returns c =
@@ -43,7 +44,7 @@ returns-2 c =
       few (g .region .«word_length») (c .scan-against .result) (c .scan-against .ensures .1),
     )
 
-pub verify-region-spec : {M : Type 1} → statement M
-verify-region-spec =
+pub verify-by-spec : {M : Type 1} → statement M
+verify-by-spec =
     tie.close
     (tie.spec (λ c κs. search needs) (λ c. search needs) (λ c. search needs) scan-against-requires returns returns-2)

@@ -1,0 +1,98 @@
+-- `ecc::plane_scan_by` meets its contract. The invariant: what was counted, with the count of the words to come, is the report's.
+use mathlib.Core.Path.{_≡_, sym, ap, _∙_, subst}
+use mathlib.Core.Logic.{⊎-elim}
+use Prim.Native.Nat.{ℕ, _+_, _*_, _-_, _≤_, _<_}
+use native.Mathlib.Omega.{arith}
+use borrow.Author.Needs.{needs}
+use denote.Ref.{now}
+use lib.Bits.{bitXor}
+use lib.ListN.{length}
+use Rattle.paper.specs.Bytes.{at}
+use Rattle.paper.specs.Parity.{classOf}
+use Rattle.paper.specs.Scan.{isCorrected, isLost, sliceWords}
+use Rattle.paper.proofs.ParityLaw.{class-zero}
+use Rattle.ecc.specs.Answers.{oneIfCorrected, oneIfLost}
+use Rattle.ecc.proofs.PlaneLaw.{syndrome-read, as-corrected, as-lost, Counted, turn, scanned}
+use Rattle.ecc.proofs.plane_scan_by.Statement.{statement}
+use Rattle.ecc.proofs.plane_scan_by.Tie as tie
+
+abbrev Inv-loop : tie.InvT-loop
+Inv-loop table parity «data» words corrected₀ uncorrectable₀ w₀ corrected uncorrectable w =
+    (w ≤ words) × (corrected ≤ w) × (uncorrectable ≤ w)
+    × Counted isCorrected table «data» parity w corrected × Counted isLost table «data» parity w uncorrectable
+
+abbrev μ-loop : tie.MeasureT-loop
+μ-loop table parity «data» words corrected₀ uncorrectable₀ w₀ corrected uncorrectable w = words - w
+
+loop-again : tie.Need-loop-again Inv-loop μ-loop
+loop-again c =
+    let q = c .before in
+    let k = q .before in
+    let u = k .before in
+    let l = u .before .before in
+    let p = l .before in
+    let a = p .before .before .before .args in
+    let table = now (a .table) in
+    let x = now (a .«data») in
+    let y = now (a .parity) in
+    let w = l .loop .w in
+    let v = u .u64-or-zero .result in
+    let s = classOf (bitXor (k .check-by .result) (at y w)) in
+    let h : w < sliceWords x y = omega (arith, p .plane-words .ensures .0) in
+    let d = syndrome-read x y w v (omega arith) (u .u64-or-zero .ensures) table (k .check-by .ensures) in
+    ⊎-elim
+    (λ t. (
+      search needs,
+      omega arith,
+      omega arith,
+      turn table x y isCorrected w (l .loop .corrected) (c .if1 .corrected) h
+          (t .4 ∙ ap (λ (n : ℕ). l .loop .corrected + n) (t .2 .ensures .0 ∙ ap oneIfCorrected (t .1 .ensures) ∙ as-corrected s v ∙ ap isCorrected d))
+          (l .loop .inv .3),
+      turn table x y isLost w (l .loop .uncorrectable) (c .if1 .uncorrectable) h
+          (t .5 ∙ ap (λ (n : ℕ). l .loop .uncorrectable + n) (t .3 .ensures .0 ∙ ap oneIfLost (t .1 .ensures) ∙ as-lost s v ∙ ap isLost d))
+          (l .loop .inv .4),
+    ))
+    (λ t.
+    let z = sym d ∙ ap classOf (t .0 .left) ∙ class-zero in (
+      search needs,
+      omega arith,
+      omega arith,
+      turn table x y isCorrected w (l .loop .corrected) (c .if1 .corrected) h (omega (arith, t .1, ap isCorrected z)) (l .loop .inv .3),
+      turn table x y isLost w (l .loop .uncorrectable) (c .if1 .uncorrectable) h (omega (arith, t .2, ap isLost z)) (l .loop .inv .4),
+    ))
+    (c .if1 .came)
+
+returns : tie.Need-returns Inv-loop μ-loop
+returns c =
+    let l = c .before in
+    let p = l .before in
+    let a = p .before .before .before .args in
+    let table = now (a .table) in
+    let x = now (a .«data») in
+    let y = now (a .parity) in
+    let e : l .loop .w ≡ p .plane-words .result = omega arith in
+    scanned table x y (p .plane-words .result) (l .loop .corrected) (l .loop .uncorrectable) (p .plane-words .ensures .0)
+    (subst (λ (w : ℕ). Counted isCorrected table x y w (l .loop .corrected)) e (l .loop .inv .3))
+    (subst (λ (w : ℕ). Counted isLost table x y w (l .loop .uncorrectable)) e (l .loop .inv .4))
+
+pub plane-scan-by-spec : {M : Type 1} → statement M
+plane-scan-by-spec =
+    tie.close
+    (tie.spec
+    Inv-loop
+    μ-loop
+    (λ c κs. search needs)
+    (λ c. search needs)
+    (λ c. search needs)
+    (λ c κs. search needs)
+    (λ c κs. search needs)
+    (λ c. search needs)
+    (λ c κs. search needs)
+    (λ c κs. search needs)
+    (λ c. search needs)
+    (λ c κs. search needs)
+    (λ c. search needs)
+    (λ c. search needs)
+    (λ c. search needs)
+    loop-again
+    returns)
