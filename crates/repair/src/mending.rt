@@ -12,6 +12,7 @@ ghost use Rattle.paper.specs.Scan.{pairsFrom};
 ghost use Rattle.paper.specs.Mend as paper;
 ghost use Rattle.laws.specs.Steps.{copyVote, copyVotes, mendHeader, mendWords};
 ghost use Rattle.scan.specs.Answers.{asScan};
+ghost use Rattle.ecc.specs.Places.{placeChecks};
 ghost use Rattle.repair.specs.Runs.{pairsAt, visitsAt};
 ghost use Rattle.repair.specs.Answers.{asMended, asMending, leftBy, Room, visitedBy, plus, met, scanned};
 use super::apart::Check;
@@ -22,6 +23,7 @@ use super::counts::report;
 use super::counts::visit;
 use super::runs::run_of;
 use super::words::fix_word;
+use ecc::place_checks;
 use error::Refusal;
 use scalar::maj3;
 use scan::Scan;
@@ -96,8 +98,15 @@ fn mend_header(bytes: &mut [u8], region_count: u16) -> usize
 }
 
 // n words from word on, with check bytes from check on, ascending.
-fn fix_words(bytes: &mut [u8], word: usize, check: usize, n: usize, counts: Counts) -> Counts
-    requires { ⌜ (8 * (word + n) ≤ length (now bytes)) × (check + n ≤ length (now bytes)) × Room n counts ⌝ }
+fn fix_words(
+    table: &[u8; 2048],
+    bytes: &mut [u8],
+    word: usize,
+    check: usize,
+    n: usize,
+    counts: Counts,
+) -> Counts
+    requires { ⌜ (8 * (word + n) ≤ length (now bytes)) × (check + n ≤ length (now bytes)) × Room n counts × (now table ≡ placeChecks) ⌝ }
     ensures leaves { λ r. ⌜ now (bytes .exit) ≡ paper.fixAll (pairsFrom n word check) (now (bytes .entry)) ⌝ }
     ensures tells { λ r. ⌜ r ≡ plus counts (met (now (bytes .entry)) (pairsFrom n word check)) ⌝ }
     ensures grows { λ r. ⌜ (r .words ≤ counts .words + n) × Room 0 r ⌝ }
@@ -105,7 +114,7 @@ fn fix_words(bytes: &mut [u8], word: usize, check: usize, n: usize, counts: Coun
     let mut total = counts;
     let mut k: usize = 0;
     while k < n {
-        let status = fix_word(bytes, word + k, check + k);
+        let status = fix_word(table, bytes, word + k, check + k);
         total = count_word(total, status);
         k += 1;
     }
@@ -113,15 +122,21 @@ fn fix_words(bytes: &mut [u8], word: usize, check: usize, n: usize, counts: Coun
 }
 
 // Entry i of the image as it stands, if there is one.
-fn mend_region(bytes: &mut [u8], header: Header, i: u16, counts: Counts) -> Counts
-    requires { ⌜ Room (2 ^ 32) counts ⌝ }
+fn mend_region(
+    table: &[u8; 2048],
+    bytes: &mut [u8],
+    header: Header,
+    i: u16,
+    counts: Counts,
+) -> Counts
+    requires { ⌜ Room (2 ^ 32) counts × (now table ≡ placeChecks) ⌝ }
     ensures leaves { λ r. ⌜ now (bytes .exit) ≡ paper.fixAll (pairsAt (header .«region_count») (now (bytes .entry)) i) (now (bytes .entry)) ⌝ }
     ensures tells { λ r. ⌜ r ≡ plus (visitedBy counts (visitsAt (header .«region_count») (now (bytes .entry)) i)) (met (now (bytes .entry)) (pairsAt (header .«region_count») (now (bytes .entry)) i)) ⌝ }
     ensures grows { λ r. ⌜ (r .words ≤ counts .words + 2 ^ 32) × Room 0 r ⌝ }
 {
     let run = run_of(bytes, header, i);
     let total = visit(counts, run.visited);
-    fix_words(bytes, run.word, run.check, run.words, total)
+    fix_words(table, bytes, run.word, run.check, run.words, total)
 }
 
 // Every examined word, and what a scan would have counted: regions are laid apart, so no word is met that another's repair moved.
@@ -131,6 +146,7 @@ fn mend_words(bytes: &mut [u8], header: Header) -> Counts
     ensures tells { λ r. ⌜ r ≡ scanned (now (bytes .entry)) ⌝ }
 {
     let n = header.region_count;
+    let table = place_checks();
     let mut counts = Counts {
         any: false,
         words: 0,
@@ -139,7 +155,7 @@ fn mend_words(bytes: &mut [u8], header: Header) -> Counts
     };
     let mut i: u16 = 0;
     while i < n {
-        counts = mend_region(bytes, header, i, counts);
+        counts = mend_region(&table, bytes, header, i, counts);
         i += 1;
     }
     counts

@@ -5,6 +5,7 @@ ghost use lib.ListN.{length};
 ghost use Rattle.paper.specs.Scan.{pairsFrom};
 ghost use Rattle.scan.specs.Answers.{asScan};
 ghost use Rattle.paper.specs.Scrub as paper;
+ghost use Rattle.ecc.specs.Places.{placeChecks};
 ghost use Rattle.repair.specs.Answers.{asState, scrubIn, Room};
 use super::counts::Counts;
 use super::counts::count_word;
@@ -12,21 +13,29 @@ use super::counts::report;
 use super::counts::visit;
 use super::runs::run_of;
 use super::words::scrub_word;
+use ecc::place_checks;
 use scan::Scan;
 use view::Header;
 use view::ParseResult;
 use view::parse;
 
 // n words from word on, with check bytes from check on, ascending.
-fn scrub_words(bytes: &mut [u8], word: usize, check: usize, n: usize, counts: Counts) -> Counts
-    requires { ⌜ (8 * (word + n) ≤ length (now bytes)) × (check + n ≤ length (now bytes)) × Room n counts ⌝ }
+fn scrub_words(
+    table: &[u8; 2048],
+    bytes: &mut [u8],
+    word: usize,
+    check: usize,
+    n: usize,
+    counts: Counts,
+) -> Counts
+    requires { ⌜ (8 * (word + n) ≤ length (now bytes)) × (check + n ≤ length (now bytes)) × Room n counts × (now table ≡ placeChecks) ⌝ }
     ensures is { λ r. ⌜ asState r (now (bytes .exit)) ≡ paper.scrubWords (pairsFrom n word check) (asState counts (now (bytes .entry))) ⌝ }
     ensures grows { λ r. ⌜ (r .words ≤ counts .words + n) × Room 0 r ⌝ }
 {
     let mut total = counts;
     let mut k: usize = 0;
     while k < n {
-        let status = scrub_word(bytes, word + k, check + k);
+        let status = scrub_word(table, bytes, word + k, check + k);
         total = count_word(total, status);
         k += 1;
     }
@@ -34,14 +43,20 @@ fn scrub_words(bytes: &mut [u8], word: usize, check: usize, n: usize, counts: Co
 }
 
 // Entry i of the image as it stands, if there is one.
-fn scrub_region(bytes: &mut [u8], header: Header, i: u16, counts: Counts) -> Counts
-    requires { ⌜ Room (2 ^ 32) counts ⌝ }
+fn scrub_region(
+    table: &[u8; 2048],
+    bytes: &mut [u8],
+    header: Header,
+    i: u16,
+    counts: Counts,
+) -> Counts
+    requires { ⌜ Room (2 ^ 32) counts × (now table ≡ placeChecks) ⌝ }
     ensures grows { λ r. ⌜ (r .words ≤ counts .words + 2 ^ 32) × Room 0 r ⌝ }
     ensures is { λ r. ⌜ asState r (now (bytes .exit)) ≡ scrubIn (header .«region_count») i (asState counts (now (bytes .entry))) ⌝ }
 {
     let run = run_of(bytes, header, i);
     let total = visit(counts, run.visited);
-    scrub_words(bytes, run.word, run.check, run.words, total)
+    scrub_words(table, bytes, run.word, run.check, run.words, total)
 }
 
 // Repairs the corrected words of every protected region and hands back counts: what is left has to be checked afresh.
@@ -53,6 +68,7 @@ pub fn scrub(bytes: &mut [u8]) -> Scan
     let ParseResult::Parsed(first) = parse(bytes) else {
         return Scan::Nothing;
     };
+    let table = place_checks();
     let mut header = first;
     let mut written: usize = 0;
     let mut counts = Counts {
@@ -70,7 +86,7 @@ pub fn scrub(bytes: &mut [u8]) -> Scan
             header = again;
             written = counts.corrected;
         }
-        counts = scrub_region(bytes, header, i, counts);
+        counts = scrub_region(&table, bytes, header, i, counts);
         i += 1;
     }
     report(counts)

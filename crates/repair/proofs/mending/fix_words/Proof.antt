@@ -15,10 +15,10 @@ use Rattle.repair.proofs.mending.fix_words.Statement.{statement}
 use Rattle.repair.proofs.mending.fix_words.Tie as tie
 
 abbrev Inv-loop : tie.InvT-loop
-Inv-loop bytes₀ word check n total₀ k₀ bytes total k = (k ≤ n) × (length bytes ≡ length bytes₀) × Room (n - k) total × (fixAll (pairsFrom (n - k) (word + k) (check + k)) bytes ≡ fixAll (pairsFrom n word check) bytes₀) × (plus total (met bytes (pairsFrom (n - k) (word + k) (check + k))) ≡ plus total₀ (met bytes₀ (pairsFrom n word check))) × (total .words ≡ total₀ .words + k)
+Inv-loop table bytes₀ word check n total₀ k₀ bytes total k = (k ≤ n) × (length bytes ≡ length bytes₀) × Room (n - k) total × (fixAll (pairsFrom (n - k) (word + k) (check + k)) bytes ≡ fixAll (pairsFrom n word check) bytes₀) × (plus total (met bytes (pairsFrom (n - k) (word + k) (check + k))) ≡ plus total₀ (met bytes₀ (pairsFrom n word check))) × (total .words ≡ total₀ .words + k)
 
 abbrev μ-loop : tie.MeasureT-loop
-μ-loop bytes₀ word check n total₀ k₀ bytes total k = n - k
+μ-loop table bytes₀ word check n total₀ k₀ bytes total k = n - k
 
 loop-holds : tie.Need-loop-holds Inv-loop μ-loop
 loop-holds c =
@@ -27,6 +27,9 @@ loop-holds c =
     let w : g .word + 0 ≡ g .word = omega arith in
     let k : g .check + 0 ≡ g .check = omega arith in
     (omega arith, refl, rw n (c .before .pre .2), rw (n, w, k), rw (n, w, k), omega arith)
+
+fix-word-requires : tie.Need-fix-word-requires Inv-loop μ-loop
+fix-word-requires c κs = (omega arith, omega arith, c .before .before .before .before .pre .3)
 
 count-word-requires : tie.Need-count-word-requires Inv-loop μ-loop
 count-word-requires c κs =
@@ -47,8 +50,8 @@ loop-again c =
           (room-next (g .n - (k + 1)) (a .loop .total) o (subst (λ (m : ℕ). Room m (a .loop .total)) n (a .loop .inv .2))),
       ap (fixAll (pairsFrom (g .n - (k + 1)) (g .word + (k + 1)) (g .check + (k + 1)))) (v .fix-word .ensures .1)
           ∙ sym (fix-next (g .n) (g .word) (g .check) k (a .loop .bytes) (omega arith)) ∙ a .loop .inv .3,
-      ap (λ (z : Counts). plus z (met (v .fix-word .last .0) (pairsFrom (g .n - (k + 1)) (g .word + (k + 1)) (g .check + (k + 1))))) (c .count-word .ensures)
-          ∙ met-next (g .n) (g .word) (g .check) k (a .loop .total) (a .loop .bytes) (v .fix-word .last .0) o (omega arith) (v .fix-word .ensures .0) (v .fix-word .ensures .1) ∙ a .loop .inv .4,
+      ap (λ (z : Counts). plus z (met (v .fix-word .last .1 .0) (pairsFrom (g .n - (k + 1)) (g .word + (k + 1)) (g .check + (k + 1))))) (c .count-word .ensures)
+          ∙ met-next (g .n) (g .word) (g .check) k (a .loop .total) (a .loop .bytes) (v .fix-word .last .1 .0) o (omega arith) (v .fix-word .ensures .0) (v .fix-word .ensures .1) ∙ a .loop .inv .4,
       ap (λ (z : Counts). z .words) (c .count-word .ensures) ∙ counted-words (a .loop .total) o ∙ omega arith,
     )
 
@@ -73,7 +76,7 @@ fix-words-spec =
     loop-holds
     (λ c. omega arith)
     (λ c. omega arith)
-    (λ c κs. omega arith)
+    fix-word-requires
     count-word-requires
     (λ c. omega arith)
     (λ c. omega arith)

@@ -14,27 +14,27 @@ use Rattle.repair.proofs.mending.mend_words.Statement.{statement}
 use Rattle.repair.proofs.mending.mend_words.Tie as tie
 
 abbrev Inv-loop : tie.InvT-loop
-Inv-loop bytes₀ header n counts₀ i₀ bytes counts i = (i ≤ header .«region_count») × (length bytes ≡ length bytes₀) × (counts .words ≤ i * 2 ^ 32) × Room 0 counts × (bytes ≡ fixedTo bytes₀ i) × (counts ≡ tallied bytes₀ i)
+Inv-loop bytes₀ header n table counts₀ i₀ bytes counts i = (i ≤ header .«region_count») × (length bytes ≡ length bytes₀) × (counts .words ≤ i * 2 ^ 32) × Room 0 counts × (bytes ≡ fixedTo bytes₀ i) × (counts ≡ tallied bytes₀ i)
 
 abbrev μ-loop : tie.MeasureT-loop
-μ-loop bytes₀ header n counts₀ i₀ bytes counts i = header .«region_count» - i
+μ-loop bytes₀ header n table counts₀ i₀ bytes counts i = header .«region_count» - i
 
 loop-holds : tie.Need-loop-holds Inv-loop μ-loop
 loop-holds c =
-    let x = now (c .before .args .bytes) in
+    let x = now (c .before .before .args .bytes) in
     (omega arith, refl, omega arith, record { words = omega arith; corrected = omega arith; uncorrectable = omega arith }, sym (none-fixed x), sym (none-tallied x))
 
 mend-region-requires : tie.Need-mend-region-requires Inv-loop μ-loop
 mend-region-requires c κs =
-    let r = c .before .before .loop .inv .3 in
-    record { words = omega arith; corrected = r .corrected; uncorrectable = r .uncorrectable }
+    let r = c .before .before .before .loop .inv .3 in
+    (record { words = omega arith; corrected = r .corrected; uncorrectable = r .uncorrectable }, c .before .before .before .before .place-checks .ensures)
 
 loop-again : tie.Need-loop-again Inv-loop μ-loop
 loop-again c =
     let o = c .before .before .mend-region in
-    let l = c .before .before .before .before .before .loop in
-    let k = c .before .before .before .before .before .before .slice-known in
-    let s = c .before .before .before .before .before .before .before in
+    let l = c .before .before .before .before .before .before .loop in
+    let k = c .before .before .before .before .before .before .before .before .slice-known in
+    let s = c .before .before .before .before .before .before .before .before .before in
     let x = now (s .args .bytes) in
     let y = l .bytes in
     let bs : Bytes x = record { small = λ p. omega (arith, k .given p .fits) } in
@@ -52,8 +52,8 @@ loop-again c =
 returns : tie.Need-returns Inv-loop μ-loop
 returns c =
     let l = c .before .loop in
-    let k = c .before .before .slice-known in
-    let s = c .before .before .before in
+    let k = c .before .before .before .slice-known in
+    let s = c .before .before .before .before in
     let x = now (s .args .bytes) in
     let bs : Bytes x = record { small = λ p. omega (arith, k .given p .fits) } in
     (l .inv .4 ∙ all-fixed x (l .i) (omega (arith, s .pre .0)), l .inv .5 ∙ tally-all x (s .pre .1) bs (l .i) (omega (arith, s .pre .0)))
@@ -64,6 +64,7 @@ mend-words-spec =
     (tie.spec
     Inv-loop
     μ-loop
+    (λ c κs. omega arith)
     loop-holds
     mend-region-requires
     (λ c. omega arith)

@@ -20,7 +20,8 @@ scrub-words-requires c κs =
     let s = c .before .before .before .before .before in (
       r .ensures .data-fits,
       r .ensures .checks-fit,
-      subst (Room (r .result .words)) (sym (c .before .visit .ensures)) (room-visit (s .args .counts) (r .result .words) _ (s .pre) (r .ensures .few)),
+      subst (Room (r .result .words)) (sym (c .before .visit .ensures)) (room-visit (s .args .counts) (r .result .words) _ (s .pre .0) (r .ensures .few)),
+      s .pre .1,
     )
 
 returns : tie.Need-returns
