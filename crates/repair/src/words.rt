@@ -33,7 +33,13 @@ fn status_at(table: &[u8; 2048], bytes: &[u8], word: usize, check: usize) -> Wor
     requires { ⌜ (8 * word + 8 ≤ length (now bytes)) × (check < length (now bytes)) × (now table ≡ placeChecks) ⌝ }
     ensures { λ r. ⌜ asOutcome r ≡ outcome (wordAt (now (bytes .entry)) word) (at (now (bytes .entry)) check) ⌝ }
 {
-    decode_by(table, u64_or_zero(bytes, 8 * word), bytes[check])
+    let data = u64_or_zero(bytes, 8 * word);
+    let found = bytes[check];
+    // A clean word, which nearly every one is, is told by its check byte.
+    if check_by(table, data) == found {
+        return WordStatus::Clean(data);
+    }
+    decode_by(table, data, found)
 }
 
 // A word with its check byte. Only a corrected word is written, never its check byte.
