@@ -5,6 +5,7 @@ pub mod RunLaw
 pub mod ApartLaw
 pub mod SpanLaw
 pub mod SettleLaw
+pub mod AgreeLaw
 pub mod MetLaw
 pub mod MendingLaw
 pub mod OneAnswer

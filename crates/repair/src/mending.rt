@@ -1,12 +1,12 @@
 // Mend: every header copy becomes the vote, every corrected word is stored with its check byte, nothing else moves. (FORMAT 10)
 ghost use mathlib.Core.Path.{_≡_};
-ghost use mathlib.Core.Bool.{cond};
+ghost use mathlib.Core.Bool.{_||_, cond};
 ghost use Prim.Native.Nat.{ℕ, _+_, _*_, _^_, _<_, _≤_};
 ghost use lib.Dec.{eqb};
 ghost use lib.ListN.{length, set};
 ghost use Rattle.paper.specs.Bytes.{at};
 ghost use Rattle.paper.specs.Refusals.{fine};
-ghost use Rattle.paper.specs.Layout.{count, headerLength};
+ghost use Rattle.paper.specs.Layout.{count, headerLength, scrubWanted};
 ghost use Rattle.paper.specs.Parse.{parseVerdict};
 ghost use Rattle.paper.specs.Scan.{pairsFrom};
 ghost use Rattle.paper.specs.Mend as paper;
@@ -87,7 +87,7 @@ fn settle_copies(bytes: &mut [u8], base: usize, k: usize) -> usize
 }
 
 // The copies of the prologue, and those of the directory.
-fn mend_header(bytes: &mut [u8], region_count: u16) -> usize
+fn settle_header(bytes: &mut [u8], region_count: u16) -> usize
     requires { ⌜ («region_count» ≡ count (now bytes)) × (headerLength «region_count» ≤ length (now bytes)) ⌝ }
     ensures leaves { λ r. ⌜ now (bytes .exit) ≡ mendHeader (now (bytes .entry)) ⌝ }
     ensures counts { λ r. ⌜ r ≡ paper.changed (now (bytes .entry)) (now (bytes .exit)) ⌝ }
@@ -95,6 +95,18 @@ fn mend_header(bytes: &mut [u8], region_count: u16) -> usize
     let prologue = settle_copies(bytes, 0, 16);
     let directory = settle_copies(bytes, 48, 16 * (region_count as usize));
     prologue + directory
+}
+
+// Where parse saw no copy that differs from the vote, there is nothing to write.
+fn mend_header(bytes: &mut [u8], header: Header) -> usize
+    requires { ⌜ (header .«region_count» ≡ count (now bytes)) × (headerLength (header .«region_count») ≤ length (now bytes)) × (header .«prologue_disagreed» || header .«directory_disagreed» ≡ scrubWanted (now bytes)) ⌝ }
+    ensures leaves { λ r. ⌜ now (bytes .exit) ≡ mendHeader (now (bytes .entry)) ⌝ }
+    ensures counts { λ r. ⌜ r ≡ paper.changed (now (bytes .entry)) (now (bytes .exit)) ⌝ }
+{
+    if !header.needs_scrub() {
+        return 0;
+    }
+    settle_header(bytes, header.region_count)
 }
 
 // n words from word on, with check bytes from check on, ascending.
@@ -173,11 +185,11 @@ fn is_whole(report: Scan) -> bool
 
 // Of an image whose regions are laid apart. The words are passed once: the header's votes move none of them.
 fn mend_apart(bytes: &mut [u8], header: Header) -> Mending
-    requires { ⌜ (header .«region_count» ≡ count (now bytes)) × (paper.mendVerdict (now bytes) ≡ fine) ⌝ }
+    requires { ⌜ (header .«region_count» ≡ count (now bytes)) × (paper.mendVerdict (now bytes) ≡ fine) × (header .«prologue_disagreed» || header .«directory_disagreed» ≡ scrubWanted (now bytes)) ⌝ }
     ensures is { λ r. ⌜ asMending r (now (bytes .exit)) ≡ paper.mend (now (bytes .entry)) ⌝ }
     ensures leaves { λ r. ⌜ now (bytes .exit) ≡ paper.mendBytes (now (bytes .entry)) ⌝ }
 {
-    let in_header = mend_header(bytes, header.region_count);
+    let in_header = mend_header(bytes, header);
     let counts = mend_words(bytes, header);
     let report = report(counts);
     Mending {
@@ -189,7 +201,7 @@ fn mend_apart(bytes: &mut [u8], header: Header) -> Mending
 
 // Of an image that parses.
 fn mend_parsed(bytes: &mut [u8], header: Header) -> MendResult
-    requires { ⌜ (header .«region_count» ≡ count (now bytes)) × (parseVerdict (now bytes) ≡ fine) ⌝ }
+    requires { ⌜ (header .«region_count» ≡ count (now bytes)) × (parseVerdict (now bytes) ≡ fine) × (header .«prologue_disagreed» || header .«directory_disagreed» ≡ scrubWanted (now bytes)) ⌝ }
     ensures is { λ r. ⌜ asMended r (now (bytes .exit)) ≡ paper.mend (now (bytes .entry)) ⌝ }
     ensures leaves { λ r. ⌜ now (bytes .exit) ≡ leftBy (paper.mend (now (bytes .entry))) (now (bytes .entry)) ⌝ }
 {

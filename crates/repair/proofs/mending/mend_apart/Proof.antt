@@ -28,7 +28,7 @@ mend-header-requires : tie.Need-mend-header-requires
 mend-header-requires c κs =
     let s = c .before .before in
     let x = now (s .args .bytes) in
-    (s .pre .0, subst (λ (n : ℕ). headerLength n ≤ length x) (sym (s .pre .0)) (accepted x (s .pre .1) .long))
+    (s .pre .0, subst (λ (n : ℕ). headerLength n ≤ length x) (sym (s .pre .0)) (accepted x (s .pre .1) .long), s .pre .2)
 
 mend-words-requires : tie.Need-mend-words-requires
 mend-words-requires c κs =

@@ -23,7 +23,7 @@ mend-apart-requires c κs =
     let k = c .before .before .before .check-apart in
     let s = c .before .before .before .before .before .before in
     let x = now (s .args .bytes) in
-    (s .pre .0, apart-fine x (s .pre .1) (sym (ap asCheck (sym (c .before .enum-told .given .1)) ∙ k .ensures ∙ ap (λ (n : ℕ). paper.apartVerdict n 0 [] (seen n x)) (s .pre .0) ∙ ap (paper.apartVerdict (count x) 0 []) (seen-is x (s .pre .1)))))
+    (s .pre .0, apart-fine x (s .pre .1) (sym (ap asCheck (sym (c .before .enum-told .given .1)) ∙ k .ensures ∙ ap (λ (n : ℕ). paper.apartVerdict n 0 [] (seen n x)) (s .pre .0) ∙ ap (paper.apartVerdict (count x) 0 []) (seen-is x (s .pre .1)))), s .pre .2)
 
 returns : tie.Need-returns
 returns c =
