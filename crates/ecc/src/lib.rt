@@ -168,7 +168,7 @@ pub fn decode_word(data: u64, check: u8) -> WordStatus
     status_of(data, check_byte(data) ^ check)
 }
 
-// The same by a table of check bytes, for many words: build it once, by place_checks.
+// The same by a table of check bytes, for many words: place_checks fills it once.
 pub fn decode_by(table: &[u8; 2048], data: u64, check: u8) -> WordStatus
     ensures { λ r. ⌜ asOutcome r ≡ outcomeBy (now (table .entry)) «data» check ⌝ }
 {
@@ -277,6 +277,7 @@ pub fn plane_scan_by(table: &[u8; 2048], parity: &[u8], data: &[u8]) -> EccRepor
 pub fn plane_scan(parity: &[u8], data: &[u8]) -> EccReport
     ensures { λ r. ⌜ asReport r ≡ sliceScan (now («data» .entry)) (now (parity .entry)) ⌝ }
 {
-    let table = place_checks();
+    let mut table = [0u8; 2048];
+    place_checks(&mut table);
     plane_scan_by(&table, parity, data)
 }

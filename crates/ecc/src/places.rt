@@ -34,18 +34,17 @@ fn fill_place(table: &mut [u8; 2048], columns: &[u8; 72], k: usize)
     }
 }
 
-// The whole table. It takes less than a microsecond: build it once for many words, and lend it.
-pub fn place_checks() -> [u8; 2048]
-    ensures { λ r. ⌜ r ≡ placeChecks ⌝ }
+// The whole table, whatever was in it. It takes less than a microsecond: fill it once for many words, and lend it.
+pub fn place_checks(table: &mut [u8; 2048])
+    ensures { λ _. ⌜ now (table .exit) ≡ placeChecks ⌝ }
 {
+    *table = [0u8; 2048];
     let columns = COLUMNS;
-    let mut table = [0u8; 2048];
     let mut k: usize = 0;
     while k < 8 {
-        fill_place(&mut table, &columns, k);
+        fill_place(table, &columns, k);
         k += 1;
     }
-    table
 }
 
 // The entry of the byte in place k.

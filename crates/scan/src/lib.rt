@@ -33,7 +33,8 @@ pub fn verify_region(bytes: &[u8], header: Header, region: Region) -> Scan
     ensures is { λ r. ⌜ asScan r ≡ scanRegion (header .«region_count») (now (bytes .entry)) (asEntry region) ⌝ }
     ensures few { λ r. ⌜ Few (region .«word_length») r ⌝ }
 {
-    let table = place_checks();
+    let mut table = [0u8; 2048];
+    place_checks(&mut table);
     verify_by(&table, bytes, header, region)
 }
 
@@ -118,7 +119,8 @@ pub fn verify_all(bytes: &[u8], header: Header) -> Scan
     ensures { λ r. ⌜ asScan r ≡ scanIn (header .«region_count») (now (bytes .entry)) ⌝ }
 {
     let n = header.region_count;
-    let table = place_checks();
+    let mut table = [0u8; 2048];
+    place_checks(&mut table);
     let mut total = Total {
         any: false,
         words: 0,

@@ -12,7 +12,7 @@ use Rattle.ecc.proofs.plane_scan.Tie as tie
 returns : tie.Need-returns
 returns c =
     let p = c .before .before in
-    let a = p .before .before .before .args in
+    let a = p .before .before .before .before .args in
     let x = now (a .«data») in
     let y = now (a .parity) in
     c .plane-scan-by .ensures ∙ ap (λ (t : List ℕ). sliceScanBy t x y) (p .place-checks .ensures)

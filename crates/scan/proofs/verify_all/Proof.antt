@@ -28,7 +28,7 @@ loop-again : tie.Need-loop-again Inv-loop μ-loop
 unfolding regionAt
 loop-again c =
     let a = c .before .before .before in
-    let g = a .before .before .before .args in
+    let g = a .before .before .before .before .args in
     let n = g .header .«region_count» in
     let x = now (g .bytes) in (
       omega arith,
@@ -40,7 +40,7 @@ loop-again c =
 returns : tie.Need-returns Inv-loop μ-loop
 returns c =
     let a = c .before .before .before in
-    let g = a .before .before .before .args in
+    let g = a .before .before .before .before .args in
     let n = g .header .«region_count» in
     let x = now (g .bytes) in
     let e : asTotals (a .loop .total) ≡ addAll x (seen n x) (seen n x) noTotals =
@@ -50,7 +50,7 @@ returns c =
 returns-2 : tie.Need-returns-2 Inv-loop μ-loop
 returns-2 c =
     let a = c .before .before .before in
-    let g = a .before .before .before .args in
+    let g = a .before .before .before .before .args in
     let n = g .header .«region_count» in
     let x = now (g .bytes) in
     let e : asTotals (a .loop .total) ≡ addAll x (seen n x) (seen n x) noTotals =

@@ -2,20 +2,17 @@
 use mathlib.Core.Path.{_≡_, refl, subst}
 use Prim.Native.Nat.{ℕ, _-_, _*_, _≤_}
 use native.Mathlib.Omega.{arith}
-use borrow.Author.Needs.{needs}
 use Rattle.paper.specs.Parity.{columns}
 use Rattle.ecc.specs.Places.{Filled}
 use Rattle.ecc.proofs.PlacesLaw.{empty, all-filled}
 use Rattle.ecc.proofs.places.place_checks.Statement.{statement}
 use Rattle.ecc.proofs.places.place_checks.Tie as tie
-use Rattle.ecc.proofs.places.place_checks.Reads as reads
-use Rattle.ecc.proofs.places.place_checks.Lts as lts
 
 abbrev Inv-loop : tie.InvT-loop
-Inv-loop columns′ table₀ k₀ table k = (k ≤ 8) × Filled (256 * k) table
+Inv-loop table₀ columns′ k₀ table k = (k ≤ 8) × Filled (256 * k) table
 
 abbrev μ-loop : tie.MeasureT-loop
-μ-loop columns′ table₀ k₀ table k = 8 - k
+μ-loop table₀ columns′ k₀ table k = 8 - k
 
 loop-holds : tie.Need-loop-holds Inv-loop μ-loop
 loop-holds c = (omega arith, empty _ refl)
