@@ -158,7 +158,8 @@ fn mend_words(bytes: &mut [u8], header: Header) -> Counts
     ensures tells { λ r. ⌜ r ≡ scanned (now (bytes .entry)) ⌝ }
 {
     let n = header.region_count;
-    let table = place_checks();
+    let mut table = [0u8; 2048];
+    place_checks(&mut table);
     let mut counts = Counts {
         any: false,
         words: 0,

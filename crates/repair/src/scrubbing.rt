@@ -68,7 +68,8 @@ pub fn scrub(bytes: &mut [u8]) -> Scan
     let ParseResult::Parsed(first) = parse(bytes) else {
         return Scan::Nothing;
     };
-    let table = place_checks();
+    let mut table = [0u8; 2048];
+    place_checks(&mut table);
     let mut header = first;
     let mut written: usize = 0;
     let mut counts = Counts {

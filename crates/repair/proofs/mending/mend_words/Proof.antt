@@ -21,7 +21,7 @@ abbrev μ-loop : tie.MeasureT-loop
 
 loop-holds : tie.Need-loop-holds Inv-loop μ-loop
 loop-holds c =
-    let x = now (c .before .before .args .bytes) in
+    let x = now (c .before .before .before .args .bytes) in
     (omega arith, refl, omega arith, record { words = omega arith; corrected = omega arith; uncorrectable = omega arith }, sym (none-fixed x), sym (none-tallied x))
 
 mend-region-requires : tie.Need-mend-region-requires Inv-loop μ-loop
@@ -33,8 +33,8 @@ loop-again : tie.Need-loop-again Inv-loop μ-loop
 loop-again c =
     let o = c .before .before .mend-region in
     let l = c .before .before .before .before .before .before .loop in
-    let k = c .before .before .before .before .before .before .before .before .slice-known in
-    let s = c .before .before .before .before .before .before .before .before .before in
+    let k = c .before .before .before .before .before .before .before .before .before .slice-known in
+    let s = c .before .before .before .before .before .before .before .before .before .before in
     let x = now (s .args .bytes) in
     let y = l .bytes in
     let bs : Bytes x = record { small = λ p. omega (arith, k .given p .fits) } in
@@ -52,8 +52,8 @@ loop-again c =
 returns : tie.Need-returns Inv-loop μ-loop
 returns c =
     let l = c .before .loop in
-    let k = c .before .before .before .slice-known in
-    let s = c .before .before .before .before in
+    let k = c .before .before .before .before .slice-known in
+    let s = c .before .before .before .before .before in
     let x = now (s .args .bytes) in
     let bs : Bytes x = record { small = λ p. omega (arith, k .given p .fits) } in
     (l .inv .4 ∙ all-fixed x (l .i) (omega (arith, s .pre .0)), l .inv .5 ∙ tally-all x (s .pre .1) bs (l .i) (omega (arith, s .pre .0)))

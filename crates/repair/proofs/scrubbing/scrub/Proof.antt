@@ -62,11 +62,11 @@ returns c =
 
 loop-holds : tie.Need-loop-holds Inv-loop μ-loop
 loop-holds c =
-    let p = c .before .before .before .before in
+    let p = c .before .before .before .before .before in
     let x = now (p .before .before .before .args .bytes) in
-    let f = parsed-fine x (p .parse .result) (p .parse .ensures) (c .before .before .first .given .0 .0) (c .before .before .first .given .1) in
-    let n = parsed-count x (p .parse .result) (p .parse .ensures) (c .before .before .first .given .0 .0) (c .before .before .first .given .1) in
-    let z : c .before .before .first .given .0 .0 .«region_count» - 0 ≡ count x = omega (arith, n) in (
+    let f = parsed-fine x (p .parse .result) (p .parse .ensures) (c .before .before .before .first .given .0 .0) (c .before .before .before .first .given .1) in
+    let n = parsed-count x (p .parse .result) (p .parse .ensures) (c .before .before .before .first .given .0 .0) (c .before .before .before .first .given .1) in
+    let z : c .before .before .before .first .given .0 .0 .«region_count» - 0 ≡ count x = omega (arith, n) in (
       omega arith,
       refl,
       omega arith,
@@ -82,8 +82,8 @@ returns-2 : tie.Need-returns-2 Inv-loop μ-loop
 returns-2 c =
     let p = c .before .before in
     let a = p .before .before .before .before .before .before in
-    let g = a .before .before .before .before .before .before .before .before .args in
-    let n = a .before .before .before .first .given .0 .0 .«region_count» in
+    let g = a .before .before .before .before .before .before .before .before .before .args in
+    let n = a .before .before .before .before .first .given .0 .0 .«region_count» in
     let z : suc (n - (a .loop .i + 1)) ≡ n - a .loop .i = omega arith in
     let s = asState (a .loop .counts) (a .loop .bytes) in
     let e : (record { image = a .loop .bytes; report = none }) ≡ paper.scrub (now (g .bytes)) =
@@ -102,9 +102,9 @@ loop-again c =
     let o = c .before .before in
     let j = o .before .before .before in
     let a = j .before .before .before .before in
-    let g = a .before .before .before .before .before .before .before .before .args in
+    let g = a .before .before .before .before .before .before .before .before .before .args in
     let x = a .loop .bytes in
-    let n = a .before .before .before .first .given .0 .0 .«region_count» in
+    let n = a .before .before .before .before .first .given .0 .0 .«region_count» in
     let ready : Checked x (j .if2 .header) × (j .if2 .written ≡ a .loop .counts .corrected) =
     ⊎-elim
     (λ w. (
@@ -133,8 +133,8 @@ same-length-3 c = c .before .before .before .loop .inv .1
 returns-3 : tie.Need-returns-3 Inv-loop μ-loop
 returns-3 c =
     let a = c .before .before .before in
-    let g = a .before .before .before .before .before .before .before .before .args in
-    let n = a .before .before .before .first .given .0 .0 .«region_count» in
+    let g = a .before .before .before .before .before .before .before .before .before .args in
+    let n = a .before .before .before .before .first .given .0 .0 .«region_count» in
     let z : 0 ≡ n - a .loop .i = omega arith in
     let s = asState (a .loop .counts) (a .loop .bytes) in
     let e : record-of s ≡ paper.scrub (now (g .bytes)) =
