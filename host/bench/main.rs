@@ -34,8 +34,12 @@ fn main() -> ExitCode {
     let rows = [
         crc32_over_1_mib(),
         scan_900_000_words(),
+        scan_every_word_corrected(),
+        scan_random_check_bytes(),
         parse_1_024_regions(),
         scrub_1_024_regions(),
+        scan_image_of_160_bytes(),
+        scan_image_of_1_024_regions(),
         scan_image_of_900_000_words(),
         scrub_image_of_900_000_words(),
     ];
@@ -68,22 +72,48 @@ fn crc32_over_1_mib() -> bool {
     )
 }
 
-/// Random words, of which each thousandth has a flipped bit.
-fn scan_900_000_words() -> bool {
-    let mut data = Random::new(5).bytes(8 * 900_000);
+/// The check bytes of 900,000 random words, and the words.
+fn words_900_000() -> (Vec<u8>, Vec<u8>) {
+    let data = Random::new(5).bytes(8 * 900_000);
     let words = data.chunks_exact(8).map(|word| u64::from_le_bytes(word.try_into().unwrap()));
-    let parity: Vec<u8> = words.map(check_byte).collect();
-    data.iter_mut().step_by(8 * 1000).for_each(|byte| *byte ^= 1);
+    (words.map(check_byte).collect(), data)
+}
+
+fn scan_words(work: &str, bar: f64, parity: &[u8], data: &[u8]) -> bool {
     row(
-        "scan, 900,000 words",
-        1.0,
+        work,
+        bar,
         ROUNDS,
-        || ffi::plane_scan(black_box(&parity), black_box(&data)),
+        || ffi::plane_scan(black_box(parity), black_box(data)),
         || {
-            let report = EccPlane::new(black_box(&parity)).scan(black_box(&data));
+            let report = EccPlane::new(black_box(parity)).scan(black_box(data));
             [report.words, report.corrected, report.uncorrectable].map(|n| n as u64)
         },
     )
+}
+
+/// Each thousandth word has a flipped bit.
+fn scan_900_000_words() -> bool {
+    let (parity, mut data) = words_900_000();
+    data.iter_mut().step_by(8 * 1000).for_each(|byte| *byte ^= 1);
+    scan_words("scan, 900,000 words", 0.2, &parity, &data)
+}
+
+/// Each word has one flipped bit, of its 64 and the 8 of its check byte.
+fn scan_every_word_corrected() -> bool {
+    let (mut parity, mut data) = words_900_000();
+    let mut random = Random::new(6);
+    for (check, word) in parity.iter_mut().zip(data.chunks_exact_mut(8)) {
+        let bit = (random.next() % 72) as usize;
+        *word.get_mut(bit / 8).unwrap_or(check) ^= 1 << (bit % 8);
+    }
+    scan_words("the same, every word corrected", 0.5, &parity, &data)
+}
+
+fn scan_random_check_bytes() -> bool {
+    let (_, data) = words_900_000();
+    let parity = Random::new(7).bytes(900_000);
+    scan_words("the same, random check bytes", 0.5, &parity, &data)
 }
 
 /// 512 protected regions of a word, each with its plane, and nothing to repair.
@@ -128,18 +158,33 @@ fn image_of_900_000_words() -> Vec<u8> {
     image
 }
 
-fn scan_image_of_900_000_words() -> bool {
-    let image = image_of_900_000_words();
+fn scan_image(work: &str, bar: f64, calls: usize, image: &[u8]) -> bool {
     row(
-        "scan, image of 900,000 words",
-        1.0,
+        work,
+        bar,
         ROUNDS,
-        || ffi_face::scan(black_box(&image)),
+        || last_of(calls, || ffi_face::scan(black_box(image))),
         || {
-            let view = WireView::parse(black_box(&image)).expect("a good image");
-            (0, report(view.verify_all()))
+            last_of(calls, || {
+                let view = WireView::parse(black_box(image)).expect("a good image");
+                (0, report(view.verify_all()))
+            })
         },
     )
+}
+
+/// One protected word, a thousand scans at a time: what a call takes before its first word.
+fn scan_image_of_160_bytes() -> bool {
+    let image = images::planned(&mut Random::new(15), &[(1, 2, 1)]);
+    scan_image("1,000 scans, image of 160 bytes", 2.0, 1000, &image)
+}
+
+fn scan_image_of_1_024_regions() -> bool {
+    scan_image("scan, image of 1,024 regions", 1.0, 1, &image_of_1_024_regions())
+}
+
+fn scan_image_of_900_000_words() -> bool {
+    scan_image("scan, image of 900,000 words", 0.2, 1, &image_of_900_000_words())
 }
 
 fn scrub_image_of_900_000_words() -> bool {
@@ -274,6 +319,12 @@ fn print_row(work: &str, bar: f64, ours: Duration, other: Duration) -> bool {
         millis(other)
     );
     ratio <= bar
+}
+
+/// The last answer of so many calls.
+fn last_of<A>(calls: usize, mut call: impl FnMut() -> A) -> A {
+    (1..calls).for_each(|_| drop(black_box(call())));
+    call()
 }
 
 fn time<A>(work: &mut impl FnMut() -> A) -> (A, Duration) {

@@ -1,5 +1,5 @@
 -- A word of a plane's region and a run of them, as the code takes them: by number, and one after the other. Assumes nothing.
-use mathlib.Core.Path.{_≡_, refl, sym, ap, _∙_}
+use mathlib.Core.Path.{_≡_, sym, ap, _∙_}
 use mathlib.Core.List.{List, []}
 use mathlib.Core.Option.{none, some}
 use Prim.Native.Nat.{ℕ, _+_, _*_, _≤_, _<_}
@@ -10,12 +10,11 @@ use lib.Bits.{bitXor}
 use lib.ListN.{length, drop}
 use lib.Seq.{drop-length}
 use Rattle.paper.specs.Bytes.{at, readIn, wordAt, tab}
-use Rattle.paper.specs.Parity.{Class, clean, flipped, beyond, classOf, Outcome, outcomeAs, outcome}
+use Rattle.paper.specs.Parity.{Class, classOf, Outcome, outcome}
 use Rattle.paper.specs.Scan.{isCorrected, isLost, total, report, sliceWords, sliceWord}
 use Rattle.paper.proofs.BytesLaw.{length-tab, drop-tab}
 use Rattle.scalar.specs.Answers.{orZero}
 use Rattle.scalar.proofs.OrZero.{or-zero-in}
-use Rattle.ecc.specs.Answers.{oneIfCorrected, oneIfLost}
 use Rattle.ecc.specs.Places.{checkBy, decodeBy, sliceScanBy}
 
 module _ (x plane : List ℕ) where
@@ -42,17 +41,6 @@ module _ (x plane : List ℕ) where
     syndrome-read t d = ap (λ (n : ℕ). classOf (bitXor n (at plane w))) (d ∙ ap (checkBy t) word-read)
 
 -- ---- the report, word by word
-
--- what a word counts for is read off its outcome as off its class
-pub as-corrected : (k : Class) (w : ℕ) → oneIfCorrected (outcomeAs k w) ≡ isCorrected k
-as-corrected clean w = refl
-as-corrected (flipped i) w = refl
-as-corrected beyond w = refl
-
-pub as-lost : (k : Class) (w : ℕ) → oneIfLost (outcomeAs k w) ≡ isLost k
-as-lost clean w = refl
-as-lost (flipped i) w = refl
-as-lost beyond w = refl
 
 -- the classes of the words by a table
 abbrev pub classes : List ℕ → List ℕ → List ℕ → List Class

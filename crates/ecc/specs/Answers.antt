@@ -1,7 +1,9 @@
 -- The paper's reading of each answer. (FORMAT 7)
 use Prim.Native.Nat.{ℕ}
+use mathlib.Core.Bool.{cond}
 use mathlib.Core.Option.{Option, none, some}
-use Rattle.paper.specs.Parity.{Outcome, cleanWord, correctedWord, uncorrectableWord}
+use lib.Dec.{ltb}
+use Rattle.paper.specs.Parity.{Class, flipped, beyond, Outcome, cleanWord, correctedWord, uncorrectableWord}
 use Rattle.paper.specs.Scan.{Report}
 use Rattle.ecc.specs.declared.WordStatus.{WordStatus}
 use Rattle.ecc.specs.declared.WordStatus.the-variants.{Clean, Corrected, Uncorrectable}
@@ -21,14 +23,6 @@ asWord Nothing = none
 abbrev pub asReport : EccReport → Report
 asReport r = record { words = r .words; corrected = r .corrected; uncorrectable = r .uncorrectable }
 
--- ---- what a decoded word adds to a report
-
-abbrev pub oneIfCorrected : Outcome → ℕ
-oneIfCorrected (cleanWord w) = 0
-oneIfCorrected (correctedWord w) = 1
-oneIfCorrected uncorrectableWord = 0
-
-abbrev pub oneIfLost : Outcome → ℕ
-oneIfLost (cleanWord w) = 0
-oneIfLost (correctedWord w) = 0
-oneIfLost uncorrectableWord = 1
+-- the class of bit i of the 72, and of none, 72
+abbrev pub classOfBit : ℕ → Class
+classOfBit i = cond (ltb i 72) (flipped i) beyond

@@ -3,12 +3,12 @@ mod places;
 
 ghost use mathlib.Core.Path.{_≡_};
 ghost use mathlib.Core.Bool.{_&&_};
-ghost use Prim.Native.Nat.{_*_, _≤_};
+ghost use Prim.Native.Nat.{_-_, _*_, _≤_};
 ghost use lib.Dec.{eqb, ltb};
 ghost use lib.ListN.{length};
 ghost use Rattle.paper.specs.Parity.{columns, find, checkOf, classOf, outcomeAs, outcome, planeKind};
-ghost use Rattle.paper.specs.Scan.{sliceWords, sliceWord, sliceScan};
-ghost use Rattle.ecc.specs.Answers.{asOutcome, asWord, asReport, oneIfCorrected, oneIfLost};
+ghost use Rattle.paper.specs.Scan.{isCorrected, isLost, sliceWords, sliceWord, sliceScan};
+ghost use Rattle.ecc.specs.Answers.{asOutcome, asWord, asReport, classOfBit};
 ghost use Rattle.ecc.specs.Places.{outcomeBy, sliceScanBy};
 pub use places::check_by;
 pub use places::place_checks;
@@ -126,19 +126,31 @@ pub enum WordStatus {
     Uncorrectable,
 }
 
-// The place of the syndrome among the columns, or 72.
+// The place of the syndrome among the columns, or 72. The loop always runs to its end, which is compiled to wide compares.
 fn column_of(syndrome: u8) -> usize
     ensures { λ r. ⌜ (r ≡ find syndrome columns) × (r ≤ 72) ⌝ }
 {
     let table = COLUMNS;
-    let mut i: usize = 0;
+    let mut left: u8 = 0;
+    let mut i: u8 = 0;
     while i < 72 {
-        if table[i] == syndrome {
-            return i;
+        if table[i as usize] == syndrome {
+            left |= 72 - i;
         }
         i += 1;
     }
-    72
+    72 - (left as usize)
+}
+
+// The one bit of the 72 whose flip leaves this syndrome, which is not 0; 72 where there is none.
+fn flipped_bit(syndrome: u8) -> usize
+    requires { ⌜ (syndrome ≡ 0 → ⊥) ⌝ }
+    ensures { λ r. ⌜ (classOf syndrome ≡ classOfBit r) × (r ≤ 72) ⌝ }
+{
+    if u8::count_ones(syndrome) % 2 == 0 {
+        return 72;
+    }
+    column_of(syndrome)
 }
 
 // What a syndrome says of a word.
@@ -148,10 +160,7 @@ fn status_of(data: u64, syndrome: u8) -> WordStatus
     if syndrome == 0 {
         return WordStatus::Clean(data);
     }
-    if u8::count_ones(syndrome) % 2 == 0 {
-        return WordStatus::Uncorrectable;
-    }
-    let i = column_of(syndrome);
+    let i = flipped_bit(syndrome);
     if i < 64 {
         return WordStatus::Corrected(data ^ (1u64 << i));
     }
@@ -227,24 +236,12 @@ pub fn plane_word(parity: &[u8], data: &[u8], index: usize) -> PlaneWord
     PlaneWord::Word(decode_word(scalar::u64_or_zero(data, 8 * index), parity[index]))
 }
 
-fn one_if_corrected(status: WordStatus) -> usize
-    ensures { λ r. ⌜ (r ≡ oneIfCorrected (asOutcome status)) × (r ≤ 1) ⌝ }
+// What a word whose syndrome is not 0 adds to the corrected ones; it adds the rest of 1 to the uncorrectable ones.
+fn one_if_corrected(syndrome: u8) -> usize
+    requires { ⌜ (syndrome ≡ 0 → ⊥) ⌝ }
+    ensures { λ r. ⌜ (r ≡ isCorrected (classOf syndrome)) × (1 - r ≡ isLost (classOf syndrome)) × (r ≤ 1) ⌝ }
 {
-    match status {
-        WordStatus::Clean(_) => 0,
-        WordStatus::Corrected(_) => 1,
-        WordStatus::Uncorrectable => 0,
-    }
-}
-
-fn one_if_lost(status: WordStatus) -> usize
-    ensures { λ r. ⌜ (r ≡ oneIfLost (asOutcome status)) × (r ≤ 1) ⌝ }
-{
-    match status {
-        WordStatus::Clean(_) => 0,
-        WordStatus::Corrected(_) => 0,
-        WordStatus::Uncorrectable => 1,
-    }
+    if flipped_bit(syndrome) < 72 { 1 } else { 0 }
 }
 
 // Every word of the data that has its byte in the plane, by a table of check bytes.
@@ -260,9 +257,9 @@ pub fn plane_scan_by(table: &[u8; 2048], parity: &[u8], data: &[u8]) -> EccRepor
         let syndrome = check_by(table, word) ^ parity[w];
         // A clean word, which nearly every one is, counts for nothing.
         if syndrome != 0 {
-            let status = status_of(word, syndrome);
-            corrected += one_if_corrected(status);
-            uncorrectable += one_if_lost(status);
+            let one = one_if_corrected(syndrome);
+            corrected += one;
+            uncorrectable += 1 - one;
         }
         w += 1;
     }

@@ -1,18 +1,14 @@
 -- `ecc::plane_scan_by` meets its contract. The invariant: what was counted, with the count of the words to come, is the report's.
 use mathlib.Core.Path.{_≡_, sym, ap, _∙_, subst}
 use mathlib.Core.Logic.{⊎-elim}
-use Prim.Native.Nat.{ℕ, _+_, _*_, _-_, _≤_, _<_}
+use Prim.Native.Nat.{ℕ, _-_, _≤_, _<_}
 use native.Mathlib.Omega.{arith}
 use borrow.Author.Needs.{needs}
 use denote.Ref.{now}
-use lib.Bits.{bitXor}
-use lib.ListN.{length}
-use Rattle.paper.specs.Bytes.{at}
 use Rattle.paper.specs.Parity.{classOf}
 use Rattle.paper.specs.Scan.{isCorrected, isLost, sliceWords}
 use Rattle.paper.proofs.ParityLaw.{class-zero}
-use Rattle.ecc.specs.Answers.{oneIfCorrected, oneIfLost}
-use Rattle.ecc.proofs.PlaneLaw.{syndrome-read, as-corrected, as-lost, Counted, turn, scanned}
+use Rattle.ecc.proofs.PlaneLaw.{syndrome-read, Counted, turn, scanned}
 use Rattle.ecc.proofs.plane_scan_by.Statement.{statement}
 use Rattle.ecc.proofs.plane_scan_by.Tie as tie
 
@@ -37,20 +33,16 @@ loop-again c =
     let y = now (a .parity) in
     let w = l .loop .w in
     let v = u .u64-or-zero .result in
-    let s = classOf (bitXor (k .check-by .result) (at y w)) in
     let h : w < sliceWords x y = omega (arith, p .plane-words .ensures .0) in
     let d = syndrome-read x y w v (omega arith) (u .u64-or-zero .ensures) table (k .check-by .ensures) in
     ⊎-elim
-    (λ t. (
+    (λ t.
+    let o = t .1 in (
       search needs,
-      omega arith,
-      omega arith,
-      turn table x y isCorrected w (l .loop .corrected) (c .if1 .corrected) h
-          (t .4 ∙ ap (λ (n : ℕ). l .loop .corrected + n) (t .2 .ensures .0 ∙ ap oneIfCorrected (t .1 .ensures) ∙ as-corrected s v ∙ ap isCorrected d))
-          (l .loop .inv .3),
-      turn table x y isLost w (l .loop .uncorrectable) (c .if1 .uncorrectable) h
-          (t .5 ∙ ap (λ (n : ℕ). l .loop .uncorrectable + n) (t .3 .ensures .0 ∙ ap oneIfLost (t .1 .ensures) ∙ as-lost s v ∙ ap isLost d))
-          (l .loop .inv .4),
+      omega (arith, t .2, o .ensures .2),
+      omega (arith, t .3),
+      turn table x y isCorrected w (l .loop .corrected) (c .if1 .corrected) h (omega (arith, t .2, o .ensures .0, ap isCorrected d)) (l .loop .inv .3),
+      turn table x y isLost w (l .loop .uncorrectable) (c .if1 .uncorrectable) h (omega (arith, t .3, o .ensures .1, ap isLost d)) (l .loop .inv .4),
     ))
     (λ t.
     let z = sym d ∙ ap classOf (t .0 .left) ∙ class-zero in (
@@ -87,10 +79,9 @@ plane-scan-by-spec =
     (λ c κs. search needs)
     (λ c κs. search needs)
     (λ c. search needs)
-    (λ c κs. search needs)
-    (λ c κs. search needs)
+    (λ c κs. c .if1 .taken)
     (λ c. search needs)
-    (λ c κs. search needs)
+    (λ c. search needs)
     (λ c. search needs)
     (λ c. search needs)
     (λ c. search needs)

@@ -4,12 +4,12 @@ use Prim.Native.Nat.{ℕ, _*_, _%_, _^_, _≤_, _<_}
 use native.Mathlib.Nat.{one-mul}
 use native.Mathlib.Omega.{arith}
 use borrow.Author.Needs.{needs}
-use borrow.Author.Tests.{ne-eqb, lt-ltb, le-ltb}
+use borrow.Author.Tests.{lt-ltb, le-ltb}
 use lib.Dec.{lit<}
 use lib.Bits.{bitXor}
-use lib.Count.{ones}
 use lib.Pow.{shl-exact}
-use Rattle.paper.specs.Parity.{columns, find, isOdd, classOf, flipWord, outcomeAs, cleanWord, correctedWord, uncorrectableWord}
+use Rattle.paper.specs.Parity.{classOf, flipWord, outcomeAs, cleanWord, correctedWord, uncorrectableWord}
+use Rattle.ecc.specs.Answers.{classOfBit}
 use Rattle.ecc.proofs.status_of.Statement.{statement}
 use Rattle.ecc.proofs.status_of.Tie as tie
 
@@ -18,23 +18,13 @@ module _ (w s : ℕ) where
   unfolding classOf
   is-clean z = rw z
 
-  module _ (f : s ≡ 0 → ⊥) where
-    is-even : ones s % 2 ≡ 0 → uncorrectableWord ≡ outcomeAs (classOf s) w
-    unfolding classOf isOdd
-    is-even e = rw (ne-eqb s 0 f, e)
+  -- i is the flipped bit
+  module _ (i : ℕ) (e : classOf s ≡ classOfBit i) where
+    is-fixed : i < 72 → correctedWord (flipWord i w) ≡ outcomeAs (classOf s) w
+    is-fixed h = rw (e, lt-ltb i 72 h)
 
-    -- i is the place of the syndrome
-    module _ (o : ones s % 2 ≡ 0 → ⊥) (i : ℕ) (ei : i ≡ find s columns) where
-      odd : ones s % 2 ≡ 1
-      odd = omega arith
-
-      is-fixed : i < 72 → correctedWord (flipWord i w) ≡ outcomeAs (classOf s) w
-      unfolding classOf isOdd
-      is-fixed h = rw (ne-eqb s 0 f, odd, ← ei, lt-ltb i 72 h)
-
-      is-lost : 72 ≤ i → uncorrectableWord ≡ outcomeAs (classOf s) w
-      unfolding classOf isOdd
-      is-lost h = rw (ne-eqb s 0 f, odd, ← ei, le-ltb i 72 h)
+    is-lost : 72 ≤ i → uncorrectableWord ≡ outcomeAs (classOf s) w
+    is-lost h = rw (e, le-ltb i 72 h)
 
 in-word : (i w : ℕ) → i < 64 → bitXor w ((1 * 2 ^ i) % 2 ^ 64) ≡ flipWord i w
 unfolding flipWord
@@ -49,37 +39,21 @@ returns c = is-clean (c .before .args .«data») (c .before .args .syndrome) (c 
 
 returns-2 : tie.Need-returns-2
 returns-2 c =
-    let g = c .before .before .args in
-    is-even (g .«data») (g .syndrome) (c .before .if1 .left) (c .if2 .taken)
+    let b = c .before .flipped-bit in
+    let g = c .before .before .before .args in
+    ap correctedWord (in-word (b .result) (g .«data») (c .if2 .taken)) ∙ is-fixed (g .«data») (g .syndrome) (b .result) (b .ensures .0) (omega arith)
 
 returns-3 : tie.Need-returns-3
 returns-3 c =
-    let p = c .before in
-    let g = p .before .before .before .args in
-    ap correctedWord (in-word (p .column-of .result) (g .«data») (c .if3 .taken))
-    ∙ is-fixed (g .«data») (g .syndrome) (p .before .before .if1 .left) (p .before .if2 .left) (p .column-of .result) (p .column-of .ensures .0) (omega arith)
+    let b = c .before .before .flipped-bit in
+    let g = c .before .before .before .before .args in
+    ap correctedWord (in-check (b .result) (g .«data») (c .before .if2 .left)) ∙ is-fixed (g .«data») (g .syndrome) (b .result) (b .ensures .0) (c .if3 .taken)
 
 returns-4 : tie.Need-returns-4
 returns-4 c =
-    let p = c .before .before in
-    let g = p .before .before .before .args in
-    ap correctedWord (in-check (p .column-of .result) (g .«data») (c .before .if3 .left))
-    ∙ is-fixed (g .«data») (g .syndrome) (p .before .before .if1 .left) (p .before .if2 .left) (p .column-of .result) (p .column-of .ensures .0) (c .if4 .taken)
-
-returns-5 : tie.Need-returns-5
-returns-5 c =
-    let p = c .before .before in
-    let g = p .before .before .before .args in
-    is-lost (g .«data») (g .syndrome) (p .before .before .if1 .left) (p .before .if2 .left) (p .column-of .result) (p .column-of .ensures .0) (c .if4 .left)
+    let b = c .before .before .flipped-bit in
+    let g = c .before .before .before .before .args in
+    is-lost (g .«data») (g .syndrome) (b .result) (b .ensures .0) (c .if3 .left)
 
 pub status-of-spec : {M : Type 1} → statement M
-status-of-spec =
-    tie.close
-    (tie.spec
-    returns
-    returns-2
-    (λ c κs. search needs)
-    (λ c. search needs)
-    returns-3
-    returns-4
-    returns-5)
+status-of-spec = tie.close (tie.spec returns (λ c κs. c .if1 .left) (λ c. search needs) returns-2 returns-3 returns-4)

@@ -5,7 +5,6 @@ use native.Mathlib.Nat.{pow-suc}
 use native.Mathlib.Numerals.{add-one}
 use native.Mathlib.Omega.{arith}
 use borrow.Author.Needs.{needs}
-use denote.Ref.{now}
 use lib.Bits.{bitXor}
 use Rattle.paper.specs.Bytes.{at}
 use Rattle.ecc.specs.Places.{placeCheck, Filled}

@@ -1,0 +1,31 @@
+-- `ecc::flipped_bit` meets its contract. Assumes nothing.
+use mathlib.Core.Path.{_≡_}
+use Prim.Native.Nat.{ℕ, _%_}
+use native.Mathlib.Omega.{arith}
+use borrow.Author.Needs.{needs}
+use borrow.Author.Tests.{ne-eqb}
+use lib.Count.{ones}
+use Rattle.paper.specs.Parity.{columns, find, isOdd, beyond, classOf}
+use Rattle.ecc.specs.Answers.{classOfBit}
+use Rattle.ecc.proofs.flipped_bit.Statement.{statement}
+use Rattle.ecc.proofs.flipped_bit.Tie as tie
+
+module _ (s : ℕ) (f : s ≡ 0 → ⊥) where
+  is-even : ones s % 2 ≡ 0 → classOf s ≡ beyond
+  unfolding classOf isOdd
+  is-even e = rw (ne-eqb s 0 f, e)
+
+  is-odd : (ones s % 2 ≡ 0 → ⊥) → {i : ℕ} → i ≡ find s columns → classOf s ≡ classOfBit i
+  unfolding classOf isOdd
+  is-odd o {i} e = let one : ones s % 2 ≡ 1 = omega arith in rw (ne-eqb s 0 f, one, ← e)
+
+returns : tie.Need-returns
+returns c = (is-even (c .before .args .syndrome) (c .before .pre) (c .if1 .taken), omega arith)
+
+returns-2 : tie.Need-returns-2
+returns-2 c =
+    let s = c .before .before in
+    (is-odd (s .args .syndrome) (s .pre) (c .before .if1 .left) (c .column-of .ensures .0), c .column-of .ensures .1)
+
+pub flipped-bit-spec : {M : Type 1} → statement M
+flipped-bit-spec = tie.close (tie.spec returns (λ c κs. search needs) returns-2)

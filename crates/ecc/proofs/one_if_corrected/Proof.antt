@@ -1,0 +1,31 @@
+-- `ecc::one_if_corrected` meets its contract. Assumes nothing.
+use mathlib.Core.Path.{_≡_, ap, _∙_, sym}
+use Prim.Native.Nat.{ℕ, _≤_, _<_}
+use native.Mathlib.Omega.{arith}
+use borrow.Author.Tests.{lt-ltb, le-ltb}
+use Rattle.paper.specs.Parity.{flipped, beyond}
+use Rattle.paper.specs.Scan.{isCorrected, isLost}
+use Rattle.ecc.specs.Answers.{classOfBit}
+use Rattle.ecc.proofs.one_if_corrected.Statement.{statement}
+use Rattle.ecc.proofs.one_if_corrected.Tie as tie
+
+is-flipped : (i : ℕ) → i < 72 → flipped i ≡ classOfBit i
+is-flipped i h = rw (lt-ltb i 72 h)
+
+is-beyond : (i : ℕ) → 72 ≤ i → beyond ≡ classOfBit i
+is-beyond i h = rw (le-ltb i 72 h)
+
+returns : tie.Need-returns
+returns c =
+    let b = c .before .flipped-bit in
+    let e = is-flipped (b .result) (c .if1 .taken) ∙ sym (b .ensures .0) in
+    (ap isCorrected e, ap isLost e, omega arith)
+
+returns-2 : tie.Need-returns-2
+returns-2 c =
+    let b = c .before .flipped-bit in
+    let e = is-beyond (b .result) (c .if1 .left) ∙ sym (b .ensures .0) in
+    (ap isCorrected e, ap isLost e, omega arith)
+
+pub one-if-corrected-spec : {M : Type 1} → statement M
+one-if-corrected-spec = tie.close (tie.spec (λ c κs. c .pre) returns returns-2)
