@@ -1,17 +1,17 @@
 -- Regions laid apart: what one entry says of the verdict. Assumes nothing.
 use mathlib.Core.Path.{_≡_, refl, sym, ap, ap₂, _∙_}
-use mathlib.Core.Bool.{Bool, true, false, _&&_, _||_, cond}
+use mathlib.Core.Bool.{Bool, true, false, _&&_, _||_}
 use mathlib.Core.List.{List, [], _∷_}
-use mathlib.Core.Option.{Option, none, some}
-use Prim.Native.Nat.{ℕ, zero, suc, _+_, _-_, _*_, _≤_, _<_, max}
+use mathlib.Core.Option.{Option, some}
+use Prim.Native.Nat.{ℕ, suc, _+_, _*_, _≤_, _<_, max}
 use native.Mathlib.Nat.{le-max-left, le-max-right}
 use native.Mathlib.Omega.{arith}
 use borrow.Author.Tests.{lt-ltb, le-ltb}
-use lib.Dec.{eqb, ltb}
+use lib.Dec.{ltb}
 use lib.ListN.{length, drop, drop-of-length-le}
-use Rattle.scan.proofs.TotalLaw.{or-false, length-seen}
+use Rattle.scan.proofs.TotalLaw.{length-seen}
 use Rattle.paper.specs.Refusals.{overlappingRegions, Verdict, fine, refuse, _then_, refuseIf}
-use Rattle.paper.specs.Layout.{Entry, start, headerLength}
+use Rattle.paper.specs.Layout.{Entry, headerLength}
 use Rattle.paper.specs.Views.{nth, seen, regionAt}
 use Rattle.paper.specs.Mend.{meets, meetsAny, inHeader, apartVerdict}
 use Rattle.layout.specs.declared.Region.{Region}
@@ -20,7 +20,7 @@ use Rattle.view.specs.Answers.{foundAs}
 use Rattle.view.specs.declared.regions.RegionAt.{RegionAt}
 use Rattle.view.specs.declared.regions.RegionAt.the-variants as is
 use Rattle.view.proofs.AnswersLaw.{found-some, found-none}
-use Rattle.laws.proofs.VerdictLaw.{and-false, or-none, or-true}
+use Rattle.laws.proofs.VerdictLaw.{and-false, or-none}
 use Rattle.repair.proofs.NthLaw.{nth-gone, nth-there}
 use Rattle.repair.specs.Earlier.{before, earlierOf, highest}
 

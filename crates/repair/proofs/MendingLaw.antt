@@ -2,20 +2,19 @@
 use mathlib.Core.Path.{_≡_, refl, sym, ap, ap₂, _∙_, subst}
 use mathlib.Core.Bool.{Bool, true, false, _&&_, _||_, cond}
 use mathlib.Core.List.{List, [], _∷_, _++_, append-nil, append-assoc}
-use mathlib.Core.Option.{Option, none, some}
 use Prim.Native.Nat.{ℕ, zero, suc, _+_, _-_, _*_, _≤_, _<_}
 use native.Mathlib.Omega.{arith}
 use borrow.Author.Tests.{le-ltb}
 use lib.ListN.{length, take, drop, take-append-drop}
 use lib.Seq.{take-all}
-use Rattle.paper.specs.Bytes.{at, wordAt, Bytes}
-use Rattle.paper.specs.Refusals.{Verdict, fine, refuse, _then_}
+use Rattle.paper.specs.Bytes.{Bytes}
+use Rattle.paper.specs.Refusals.{fine, refuse, _then_}
 use Rattle.paper.specs.Layout.{Entry, count, headerLength, header, directory, directoryOf}
 use Rattle.paper.specs.Parse.{parseVerdict}
 use Rattle.paper.specs.Views.{nth, seen, regionAt}
 use Rattle.paper.specs.Scan.{Pair, Among, pairsFrom, pairsOver, regionPairs, isProtected, planeOf, found, visitsAny, examined, total, classesAt, reportOf, report, scanOver, scan, scanIn}
 use Rattle.paper.specs.Mend as paper
-use Rattle.paper.specs.Mend.{apartVerdict, mendVerdict, fixAt, fixAll, mendBytes, changed, mend, mendAs}
+use Rattle.paper.specs.Mend.{apartVerdict, mendVerdict, fixAt, fixAll, mendBytes, changed, mend}
 use Rattle.paper.proofs.ParseLaw.{accepted-long}
 use Rattle.paper.proofs.LayoutLaw.{length-directoryOf}
 use Rattle.view.proofs.SeenLaw.{seen-long}

@@ -1,10 +1,10 @@
 -- The paper's reading of what code carries along and answers. (FORMAT 8, 10)
-use mathlib.Core.Bool.{Bool, true, _||_}
-use mathlib.Core.Option.{Option, none, some}
+use mathlib.Core.Bool.{Bool, _||_}
+use mathlib.Core.Option.{Option}
 use mathlib.Core.List.{List, [], _∷_}
-use Prim.Native.Nat.{ℕ, _+_, _*_, _^_, _≤_}
+use Prim.Native.Nat.{ℕ, _+_, _^_, _≤_}
 use lib.ListN.{length, drop}
-use Rattle.paper.specs.Layout.{Entry, directory}
+use Rattle.paper.specs.Layout.{directory}
 use Rattle.paper.specs.Views.{seen}
 use Rattle.paper.specs.Parity.{Class, Outcome, cleanWord, correctedWord, uncorrectableWord}
 use Rattle.paper.specs.Bytes.{given}

@@ -1,6 +1,5 @@
 -- `repair::apart::check_spans` meets its contract. The invariant: the entries before i are held as spans, and what is left to check decides. Assumes nothing.
 use mathlib.Core.Path.{_≡_, refl, sym, ap, ap₂, _∙_, subst}
-use mathlib.Core.List.{List}
 use Prim.Native.Nat.{max, ℕ, suc, _+_, _-_, _≤_}
 use native.Mathlib.Omega.{arith}
 use denote.Ref.{now}

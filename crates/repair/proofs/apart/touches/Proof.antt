@@ -1,5 +1,4 @@
 -- `repair::apart::touches` meets its contract. Assumes nothing.
-use Prim.Native.Nat.{_-_}
 use native.Mathlib.Omega.{arith}
 use borrow.Author.Tests.{le-leb, lt-leb}
 use Rattle.repair.proofs.apart.touches.Statement.{statement}

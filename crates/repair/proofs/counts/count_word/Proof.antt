@@ -1,6 +1,5 @@
 -- `repair::counts::count_word` meets its contract. Assumes nothing.
 use mathlib.Core.Path.{sym, ap}
-use Prim.Native.Nat.{_-_}
 use borrow.Author.Needs.{needs}
 use Rattle.ecc.specs.Answers.{asOutcome}
 use Rattle.ecc.specs.declared.WordStatus.{WordStatus}

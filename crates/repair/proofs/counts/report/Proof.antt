@@ -1,5 +1,4 @@
 -- `repair::counts::report` meets its contract. Assumes nothing.
-use Prim.Native.Nat.{_-_}
 use borrow.Author.Tests.{not-true, not-false}
 use Rattle.repair.proofs.counts.report.Statement.{statement}
 use Rattle.repair.proofs.counts.report.Tie as tie

@@ -1,5 +1,4 @@
 -- `repair::counts::visit` meets its contract. Assumes nothing.
-use Prim.Native.Nat.{_-_}
 use Rattle.repair.proofs.counts.visit.Statement.{statement}
 use Rattle.repair.proofs.counts.visit.Tie as tie
 

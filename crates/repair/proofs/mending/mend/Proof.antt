@@ -1,6 +1,5 @@
 -- `repair::mending::mend` meets its contract. Assumes nothing.
 use mathlib.Core.Path.{sym, ap}
-use Prim.Native.Nat.{_+_, _-_}
 use borrow.Author.Needs.{needs}
 use denote.Ref.{now}
 use Rattle.paper.specs.Mend as paper

@@ -1,13 +1,12 @@
 -- `repair::mending::settle_header` meets its contract. Assumes nothing.
 use mathlib.Core.Path.{subst}
-use Prim.Native.Nat.{ℕ, _+_, _-_, _≤_}
+use Prim.Native.Nat.{ℕ, _≤_}
 use native.Mathlib.Omega.{arith}
 use borrow.Author.Needs.{needs}
 use denote.Ref.{now}
 use lib.ListN.{length}
 use Rattle.paper.specs.Layout.{headerLength}
 use Rattle.repair.proofs.SettleLaw.{changed-most, header-settled, header-stored}
-use borrow.Author.Needs.{needs}
 use Rattle.repair.proofs.mending.settle_header.Statement.{statement}
 use Rattle.repair.proofs.mending.settle_header.Tie as tie
 
