@@ -59,12 +59,12 @@ enum {
 #define KW_HEADER_BYTES(regions) (48u + 48u * (size_t)(regions))
 
 /* The most stack in bytes that a call takes, with its return address and without what `memset` takes.
-   Measured: 2216, 2544, 2376, 2768 and 12424. */
+   Measured: 2216, 4440, 4440, 10616 and 12424. */
 enum {
     KW_PARSE_STACK = 2560,
-    KW_SCAN_STACK = 2816,
-    KW_SCRUB_STACK = 2816,
-    KW_MEND_STACK = 2816,
+    KW_SCAN_STACK = 5120,
+    KW_SCRUB_STACK = 5120,
+    KW_MEND_STACK = 11264,
     KW_WRITE_STACK = 13312
 };
 

@@ -1,6 +1,5 @@
 //! Times ours beside the Rust's in one run and prints a table: work, ours, the Rust's, ratio, bar. The
-//! Rust has no mend: a second table has it beside our own scan and parse, and in its worst case beside
-//! the Rust's parse.
+//! Rust has no mend: a second table has it beside our own scan and parse.
 //!
 //! Exit status 1 if a ratio is above its bar.
 
@@ -52,7 +51,8 @@ fn main() -> ExitCode {
         mend_900_000_words(),
         mend_1_024_regions(),
         lie_apart_1_024_regions(),
-        lie_apart_falling(),
+        lie_apart("1,024 falling; parse", |kind| 1023 - kind),
+        lie_apart("1,024 in no order; parse", |kind| 389 * kind % 1024),
     ];
     if rows.iter().chain(&mends).all(|&within| within) {
         ExitCode::SUCCESS
@@ -260,19 +260,20 @@ fn lie_apart_1_024_regions() -> bool {
     print_row("1,024 regions, less scan; parse", 1.0, mends.saturating_sub(scans), parses)
 }
 
-/// Each region lies before the earlier ones, so that every pair is looked at, as the Rust's parse does.
-fn lie_apart_falling() -> bool {
-    let end = 6 + 7 * 1024;
+/// Regions of a word, each at the place that `order` gives its kind: where they don't rise, every pair is
+/// looked at.
+fn lie_apart(work: &str, order: fn(u32) -> u32) -> bool {
+    let first = 6 + 6 * 1024;
     let entries: Vec<_> =
-        (0..1024).map(|kind| images::plain(kind, end - 1 - u32::from(kind), 1)).collect();
-    let image = inputs::image(&entries, 8 * end as usize);
+        (0..1024).map(|kind| images::plain(kind, first + order(kind.into()), 1)).collect();
+    let image = inputs::image(&entries, 8 * (first as usize + 1024));
     let mut mended = image.clone();
     row(
-        "1,024 falling; the Rust's parse",
-        1.0,
-        ROUNDS,
-        || mend(black_box(&mut mended)).0 == 0,
-        || WireView::parse(black_box(&image)).is_ok(),
+        work,
+        8.0,
+        20 * ROUNDS,
+        || mend(black_box(&mut mended)).0,
+        || ffi_face::parse(black_box(&image)).0,
     )
 }
 

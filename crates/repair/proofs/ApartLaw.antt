@@ -1,17 +1,17 @@
 -- Regions laid apart: what one entry says of the verdict. Assumes nothing.
 use mathlib.Core.Path.{_≡_, refl, sym, ap, ap₂, _∙_}
-use mathlib.Core.Bool.{Bool, true, false, _&&_, _||_, cond}
+use mathlib.Core.Bool.{Bool, true, false, _&&_, _||_}
 use mathlib.Core.List.{List, [], _∷_}
-use mathlib.Core.Option.{Option, none, some}
-use Prim.Native.Nat.{ℕ, zero, suc, _+_, _-_, _*_, _≤_, _<_, max}
+use mathlib.Core.Option.{Option, some}
+use Prim.Native.Nat.{ℕ, suc, _+_, _*_, _≤_, _<_, max}
 use native.Mathlib.Nat.{le-max-left, le-max-right}
 use native.Mathlib.Omega.{arith}
 use borrow.Author.Tests.{lt-ltb, le-ltb}
-use lib.Dec.{eqb, ltb}
+use lib.Dec.{ltb}
 use lib.ListN.{length, drop, drop-of-length-le}
-use Rattle.scan.proofs.TotalLaw.{or-false, length-seen}
+use Rattle.scan.proofs.TotalLaw.{length-seen}
 use Rattle.paper.specs.Refusals.{overlappingRegions, Verdict, fine, refuse, _then_, refuseIf}
-use Rattle.paper.specs.Layout.{Entry, start, headerLength}
+use Rattle.paper.specs.Layout.{Entry, headerLength}
 use Rattle.paper.specs.Views.{nth, seen, regionAt}
 use Rattle.paper.specs.Mend.{meets, meetsAny, inHeader, apartVerdict}
 use Rattle.layout.specs.declared.Region.{Region}
@@ -20,7 +20,7 @@ use Rattle.view.specs.Answers.{foundAs}
 use Rattle.view.specs.declared.regions.RegionAt.{RegionAt}
 use Rattle.view.specs.declared.regions.RegionAt.the-variants as is
 use Rattle.view.proofs.AnswersLaw.{found-some, found-none}
-use Rattle.laws.proofs.VerdictLaw.{and-false, or-none, or-true}
+use Rattle.laws.proofs.VerdictLaw.{and-false, or-none}
 use Rattle.repair.proofs.NthLaw.{nth-gone, nth-there}
 use Rattle.repair.specs.Earlier.{before, earlierOf, highest}
 
@@ -42,39 +42,6 @@ module _ (e f : Entry) where
   pub meets-else : 0 < e .words → 0 < f .words → e .offset < f .offset + f .words → meets e f ≡ ltb (f .offset) (e .offset + e .words)
   unfolding meets
   meets-else a b c = rw (lt-ltb 0 (e .words) a, lt-ltb 0 (f .words) b, lt-ltb (e .offset) (f .offset + f .words) c)
-
--- ---- an entry and those before it
-
-pub meets-none : (n : ℕ) (x : List ℕ) (j : ℕ) (r : RegionAt) (e : Entry) → r ≡ foundAs (regionAt n x j) → r ≡ is.Nothing → false ≡ meetsAny e (before (regionAt n x j) [])
-unfolding meetsAny
-meets-none n x j r e f g = rw (found-none (regionAt n x j) (sym g ∙ f))
-
-pub meets-some : (n : ℕ) (x : List ℕ) (j : ℕ) (r : RegionAt) (e : Entry) → r ≡ foundAs (regionAt n x j) → (p : Region) → r ≡ is.Found p
-    → (t : Bool) → t ≡ meets e (asEntry p) → t ≡ meetsAny e (before (regionAt n x j) [])
-unfolding meetsAny meets
-meets-some n x j r e f p g t h =
-    let s = found-some (regionAt n x j) p (sym g ∙ f) in
-    h ∙ ap (λ (q : Region). meets e (asEntry q)) (s .2) ∙ sym (or-false (meets e (s .0))) ∙ ap (λ (o : Option Entry). meetsAny e (before o [])) (sym (s .1))
-
-meets-before : (e : Entry) (o : Option Entry) (es : List Entry) → meetsAny e (before o es) ≡ meetsAny e (before o []) || meetsAny e es
-unfolding meetsAny
-meets-before e none es = refl
-meets-before e (some f) es = rw (or-false (meets e f))
-
-module _ (n : ℕ) (x : List ℕ) (e : Entry) (j : ℕ) (t : Bool) (g : t ≡ meetsAny e (before (regionAt n x j) [])) where
-  one-earlier : meetsAny e (earlierOf (seen n x) (suc j)) ≡ t || meetsAny e (earlierOf (seen n x) j)
-  unfolding earlierOf regionAt
-  one-earlier = meets-before e (nth j (seen n x)) (earlierOf (seen n x) j) ∙ ap (λ (u : Bool). u || meetsAny e (earlierOf (seen n x) j)) (sym g)
-
-  pub met : t ≡ true → meetsAny e (earlierOf (seen n x) (suc j)) ≡ true
-  met h = one-earlier ∙ ap (λ (u : Bool). u || meetsAny e (earlierOf (seen n x) j)) h
-
-  pub not-met : t ≡ false → meetsAny e (earlierOf (seen n x) (suc j)) ≡ meetsAny e (earlierOf (seen n x) j)
-  not-met h = one-earlier ∙ ap (λ (u : Bool). u || meetsAny e (earlierOf (seen n x) j)) h
-
-pub none-earlier : (all : List Entry) (e : Entry) → meetsAny e (earlierOf all 0) ≡ false
-unfolding earlierOf meetsAny
-none-earlier all e = refl
 
 -- ---- an entry that has no bytes, or starts past all of them
 

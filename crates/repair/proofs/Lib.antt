@@ -3,6 +3,9 @@ pub mod NthLaw
 pub mod ScrubbingLaw
 pub mod RunLaw
 pub mod ApartLaw
+pub mod SpanLaw
 pub mod SettleLaw
+pub mod AgreeLaw
+pub mod MetLaw
 pub mod MendingLaw
 pub mod OneAnswer

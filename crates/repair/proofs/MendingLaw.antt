@@ -2,36 +2,36 @@
 use mathlib.Core.Path.{_≡_, refl, sym, ap, ap₂, _∙_, subst}
 use mathlib.Core.Bool.{Bool, true, false, _&&_, _||_, cond}
 use mathlib.Core.List.{List, [], _∷_, _++_, append-nil, append-assoc}
-use mathlib.Core.Option.{Option, none, some}
 use Prim.Native.Nat.{ℕ, zero, suc, _+_, _-_, _*_, _≤_, _<_}
 use native.Mathlib.Omega.{arith}
 use borrow.Author.Tests.{le-ltb}
 use lib.ListN.{length, take, drop, take-append-drop}
 use lib.Seq.{take-all}
-use Rattle.paper.specs.Bytes.{at, wordAt, Bytes}
-use Rattle.paper.specs.Refusals.{Verdict, fine, refuse, _then_}
+use Rattle.paper.specs.Bytes.{Bytes}
+use Rattle.paper.specs.Refusals.{fine, refuse, _then_}
 use Rattle.paper.specs.Layout.{Entry, count, headerLength, header, directory, directoryOf}
 use Rattle.paper.specs.Parse.{parseVerdict}
-use Rattle.paper.specs.Parity.{Class, clean, flipped, beyond}
 use Rattle.paper.specs.Views.{nth, seen, regionAt}
-use Rattle.paper.specs.Scan.{Pair, Among, pairsFrom, pairsOver, pairsWith, regionPairs, isProtected, planeOf, found, visitsAny, examined, isCorrected, total, classAt, classesAt, reportOf, report, scanOver, scan, scanIn}
+use Rattle.paper.specs.Scan.{Pair, Among, pairsFrom, pairsOver, regionPairs, isProtected, planeOf, found, visitsAny, examined, total, classesAt, reportOf, report, scanOver, scan, scanIn}
 use Rattle.paper.specs.Mend as paper
-use Rattle.paper.specs.Mend.{apartVerdict, mendVerdict, storedPair, fixAt, fixAll, mendBytes, changed, mend, mendAs}
+use Rattle.paper.specs.Mend.{apartVerdict, mendVerdict, fixAt, fixAll, mendBytes, changed, mend}
 use Rattle.paper.proofs.ParseLaw.{accepted-long}
 use Rattle.paper.proofs.LayoutLaw.{length-directoryOf}
 use Rattle.view.proofs.SeenLaw.{seen-long}
 use Rattle.laws.specs.Steps.{mendHeader, mendWords}
 use Rattle.laws.proofs.HeaderLaw.{SameHeader, header-kept, same-directory}
-use Rattle.laws.proofs.HeaderHalf.{header-keeps, header-verdict, header-then-words, header-examined, header-word, header-check}
+use Rattle.laws.proofs.HeaderHalf.{header-keeps, header-verdict, header-size, header-then-words, header-examined, header-word, header-check}
 use Rattle.laws.proofs.PairLaw.{among-left, classes-ext}
 use Rattle.laws.proofs.PlanPairs.{over-append}
 use Rattle.laws.proofs.Fold.{AllApart, nil, cons, all-length, all-other, fixAll-append}
 use Rattle.laws.proofs.Apart.{accepted, apart, past}
 use Rattle.laws.proofs.StoredLaw.{stored-count}
-use Rattle.laws.proofs.VerdictLaw.{or-left, or-right}
+use Rattle.scan.proofs.TotalLaw.{or-false}
 use Rattle.repair.proofs.SettleLaw.{header-part}
-use Rattle.repair.specs.Answers.{leftBy, correctedIn}
-use Rattle.repair.specs.Runs.{entryPairs}
+use Rattle.repair.proofs.MetLaw.{met-append, met-apart, tally-append}
+use Rattle.repair.specs.declared.counts.Counts.{Counts}
+use Rattle.repair.specs.Answers.{reportedBy, visitedBy, plus, tally, met, scanned}
+use Rattle.repair.specs.Runs.{entryPairs, entryVisited, pairsAt, visitsAt}
 
 -- ---- a run of words
 
@@ -64,15 +64,40 @@ over-next len all (e ∷ es) (suc i) =
     ap (λ (ps : List Pair). cond (isProtected e) (regionPairs len all e) [] ++ ps) (over-next len all es i)
     ∙ sym (append-assoc (cond (isProtected e) (regionPairs len all e) []) (pairsOver len all (take i es)) (entryPairs len all (nth i es)))
 
+length-directory : (x : List ℕ) → length (directory x) ≤ count x
+unfolding directory
+length-directory x = omega (arith, length-directoryOf (count x) x)
+
+visits-next : (len : ℕ) (all es : List Entry) (i : ℕ) → visitsAny len all (take (suc i) es) ≡ visitsAny len all (take i es) || entryVisited len all (nth i es)
+unfolding visitsAny nth
+visits-next len all [] zero = refl
+visits-next len all [] (suc i) = refl
+visits-next len all (e ∷ es) zero = or-false (isProtected e && found (planeOf len all e))
+visits-next len all (e ∷ es) (suc i) =
+    let t = isProtected e && found (planeOf len all e) in
+    ap (λ (u : Bool). t || u) (visits-next len all es i) ∙ sym (or-assoc t (visitsAny len all (take i es)) (entryVisited len all (nth i es)))
+  where
+    or-assoc : (a b c : Bool) → (a || b) || c ≡ a || (b || c)
+    or-assoc true b c = refl
+    or-assoc false b c = refl
+
 abbrev firstPairs : List ℕ → ℕ → List Pair
 firstPairs x i = pairsOver (length x) (directory x) (take i (directory x))
 
 unfoldable pub fixedTo : List ℕ → ℕ → List ℕ
 fixedTo x i = fixAll (firstPairs x i) x
 
+-- what is counted by then
+unfoldable pub tallied : List ℕ → ℕ → Counts
+tallied x i = tally (visitsAny (length x) (directory x) (take i (directory x))) (met x (firstPairs x i))
+
 pub none-fixed : (x : List ℕ) → fixedTo x 0 ≡ x
 unfolding fixedTo fixAll pairsOver
 none-fixed x = refl
+
+pub none-tallied : (x : List ℕ) → tallied x 0 ≡ record { any = false; words = 0; corrected = 0; uncorrectable = 0 }
+unfolding tallied met pairsOver visitsAny total
+none-tallied x = refl
 
 module _ (x : List ℕ) (v : mendVerdict x ≡ fine) (b : Bytes x) where
   restPairs : ℕ → List Pair
@@ -110,69 +135,48 @@ module _ (x : List ℕ) (v : mendVerdict x ≡ fine) (b : Bytes x) where
       ∙ fixed-directory i
 
   -- entry i of the image as it stands is entry i of x
-  pub fixed-next : (i : ℕ) (y : List ℕ) (ps : List Pair) → y ≡ fixedTo x i → ps ≡ entryPairs (length y) (seen (count x) y) (regionAt (count x) y i)
-      → fixAll ps y ≡ fixedTo x (suc i)
+  pub fixed-next : (i : ℕ) (y : List ℕ) → y ≡ fixedTo x i → fixAll (pairsAt (count x) y i) y ≡ fixedTo x (suc i)
   unfolding regionAt fixedTo
-  fixed-next i y ps e f =
-      ap₂ fixAll (f ∙ ap (λ (z : List ℕ). entryPairs (length z) (seen (count x) z) (nth i (seen (count x) z))) e
-      ∙ ap₂ (λ (n : ℕ) (es : List Entry). entryPairs n es (nth i es)) (fixed-length i) (fixed-seen i)) e
+  fixed-next i y e =
+      ap (λ (z : List ℕ). fixAll (pairsAt (count x) z i) z) e
+      ∙ ap₂ (λ (n : ℕ) (es : List Entry). fixAll (entryPairs n es (nth i es)) (fixedTo x i)) (fixed-length i) (fixed-seen i)
       ∙ sym (fixAll-append (firstPairs x i) (entryPairs (length x) (directory x) (nth i (directory x))) x)
       ∙ ap (λ (qs : List Pair). fixAll qs x) (sym (over-next (length x) (directory x) (directory x) i))
 
-length-directory : (x : List ℕ) → length (directory x) ≤ count x
-unfolding directory
-length-directory x = omega (arith, length-directoryOf (count x) x)
+  -- and is counted as a scan of x counts it
+  pub tally-next : (i : ℕ) (y : List ℕ) (c : Counts) → y ≡ fixedTo x i → c ≡ tallied x i
+      → plus (visitedBy c (visitsAt (count x) y i)) (met y (pairsAt (count x) y i)) ≡ tallied x (suc i)
+  unfolding regionAt tallied
+  tally-next i y c e f =
+      let es = directory x in
+      let qs = entryPairs (length x) es (nth i es) in
+      ap₂ (λ (z : List ℕ) (t : Counts). plus (visitedBy t (visitsAt (count x) z i)) (met z (pairsAt (count x) z i))) e f
+      ∙ ap₂ (λ (n : ℕ) (all : List Entry). plus (visitedBy (tallied x i) (entryVisited n all (nth i all))) (met (fixedTo x i) (entryPairs n all (nth i all)))) (fixed-length i) (fixed-seen i)
+      ∙ tally-append (visitsAny (length x) es (take i es) || entryVisited (length x) es (nth i es)) (met x (firstPairs x i)) (met (fixedTo x i) qs)
+      ∙ ap₂ tally (sym (visits-next (length x) es es i)) (sym (met-first i qs) ∙ ap (met x) (sym (over-next (length x) es es i)))
+    where
+      met-first : (i : ℕ) (qs : List Pair) → met x (firstPairs x i ++ qs) ≡ met x (firstPairs x i) ++ met (fixedTo x i) qs
+      met-first i qs = unfold fixedTo in met-append x (firstPairs x i) qs
+
+  pub tally-all : (i : ℕ) → count x ≤ i → tallied x i ≡ scanned x
+  unfolding tallied scanned examined
+  tally-all i h =
+      ap (λ (es : List Entry). tally (visitsAny (length x) (directory x) es) (met x (pairsOver (length x) (directory x) es))) (take-all i (directory x) (omega (arith, length-directory x)))
+      ∙ ap (tally (visitsAny (length x) (directory x) (directory x))) (met-apart (length x) x b refl (apart x v))
 
 pub all-fixed : (x : List ℕ) (i : ℕ) → count x ≤ i → fixedTo x i ≡ mendWords x
 unfolding fixedTo mendWords examined
 all-fixed x i h = ap (λ (es : List Entry). fixAll (pairsOver (length x) (directory x) es) x) (take-all i (directory x) (omega (arith, length-directory x)))
-
--- ---- where no word is corrected
-
-kept : (k : Class) (p : Pair) (x : List ℕ) → isCorrected k ≡ 0 → storedPair k p x ≡ x
-kept clean p x e = refl
-kept (flipped i) p x e = absurd (omega arith)
-kept beyond p x e = refl
-
-nothing-fixed : (ps : List Pair) (x : List ℕ) → total isCorrected (classesAt x ps) ≡ 0 → fixAll ps x ≡ x
-unfolding classesAt total fixAll fixAt
-nothing-fixed [] x e = refl
-nothing-fixed (p ∷ ps) x e =
-    let a : isCorrected (classAt x p) ≡ 0 = omega arith in
-    let c : total isCorrected (classesAt x ps) ≡ 0 = omega arith in
-    ap (fixAll ps) (kept (classAt x p) p x a) ∙ nothing-fixed ps x c
-
-no-visit : (len : ℕ) (all : List Entry) (t : Bool) (e : Entry) → (t && found (planeOf len all e)) ≡ false → cond t (regionPairs len all e) [] ≡ []
-unfolding regionPairs
-no-visit len all false e h = refl
-no-visit len all true e h = go (planeOf len all e) h
-  where
-    go : (o : Option Entry) → found o ≡ false → pairsWith e o ≡ []
-    go none f = refl
-    go (some p) f = let z : _≡_ {A = Bool} true false = f in cc
-
-no-visits : (len : ℕ) (all es : List Entry) → visitsAny len all es ≡ false → pairsOver len all es ≡ []
-unfolding visitsAny pairsOver
-no-visits len all [] h = refl
-no-visits len all (e ∷ es) h =
-    let t = isProtected e && found (planeOf len all e) in
-    ap₂ (λ (ps qs : List Pair). ps ++ qs) (no-visit len all (isProtected e) e (or-left t (visitsAny len all es) h))
-    (no-visits len all es (or-right t (visitsAny len all es) h))
-
--- a scan's corrected words are all of them
-corrected-all : (x : List ℕ) → correctedIn (scan x) ≡ total isCorrected (classesAt x (examined x))
-unfolding scan examined reportOf report classesAt total
-corrected-all x = go (visitsAny (length x) (directory x) (directory x)) refl
-  where
-    go : (t : Bool) → visitsAny (length x) (directory x) (directory x) ≡ t → correctedIn (scan x) ≡ total isCorrected (classesAt x (examined x))
-    go true e = rw e
-    go false e = rw (e, no-visits (length x) (directory x) (directory x) e)
 
 -- ---- of an image that mend accepts
 
 pub seen-is : (x : List ℕ) → parseVerdict x ≡ fine → seen (count x) x ≡ directory x
 unfolding directory
 seen-is x h = seen-long (count x) x (accepted-long x h)
+
+pub scanned-report : (x : List ℕ) → reportedBy (scanned x) ≡ scan x
+unfolding scanned scan examined reportOf report
+scanned-report x = refl
 
 pub scan-is : (x : List ℕ) → parseVerdict x ≡ fine → scanIn (count x) x ≡ scan x
 unfolding scanIn scan
@@ -187,19 +191,18 @@ module _ (x : List ℕ) (v : mendVerdict x ≡ fine) (b : Bytes x) where
   after-header n y e f =
       (e ∙ sym (header-keeps x v b .count≡) ∙ ap count (sym f), ap mendVerdict f ∙ header-verdict x v b)
 
-  -- the words need not be passed
-  pub mended-none : correctedIn (scan x) ≡ 0 → mendHeader x ≡ mendBytes x
-  unfolding mendWords
-  mended-none e =
-      sym (ap (λ (ps : List Pair). fixAll ps (mendHeader x)) (header-examined x v b)
-      ∙ nothing-fixed (examined x) (mendHeader x)
-      (ap (total isCorrected) (classes-ext x (mendHeader x) (examined x) (λ q c m. (header-word x v b q c m, header-check x v b q c m)))
-      ∙ sym (corrected-all x) ∙ e))
-      ∙ mended-all
+  -- it moves no examined word
+  pub header-scanned : scanned (mendHeader x) ≡ scanned x
+  unfolding scanned
+  header-scanned =
+      ap₂ tally (ap₂ (λ (n : ℕ) (es : List Entry). visitsAny n es es) (header-size x v b) (same-directory (mendHeader x) x (header-keeps x v b)))
+      (ap (classesAt (mendHeader x)) (header-examined x v b)
+      ∙ classes-ext x (mendHeader x) (examined x) (λ q c m. (header-word x v b q c m, header-check x v b q c m)))
 
-  pub all-stored : (h w : ℕ) → h ≡ changed x (mendHeader x) → w ≡ correctedIn (scan x) → h + w ≡ changed x (mendBytes x)
+  pub all-stored : (h w : ℕ) → h ≡ changed x (mendHeader x) → w ≡ scanned x .corrected → h + w ≡ changed x (mendBytes x)
+  unfolding scanned
   all-stored h w e f =
-      ap₂ (λ (m n : ℕ). m + n) (e ∙ header-part x (accepted x v .long)) (f ∙ corrected-all x) ∙ sym (stored-count x v b)
+      ap₂ (λ (m n : ℕ). m + n) (e ∙ header-part x (accepted x v .long)) f ∙ sym (stored-count x v b)
 
 -- ---- the verdict
 

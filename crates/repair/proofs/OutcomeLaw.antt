@@ -1,6 +1,6 @@
 -- What a decoded word says of its class, and a part of the image that is put back. Assumes nothing.
 use mathlib.Core.Path.{_≡_, refl, sym, ap, _∙_}
-use mathlib.Core.List.{List, [], _∷_, _++_, append-assoc}
+use mathlib.Core.List.{List, _++_, append-assoc}
 use Prim.Native.Nat.{ℕ, _+_, _-_, _*_, _≤_}
 use native.Mathlib.Omega.{arith}
 use borrow.Rule.Slice.PartMut.{putMid, post-is}
@@ -10,6 +10,7 @@ use Rattle.paper.specs.Bytes.{at, wordAt, le, readIn}
 use Rattle.paper.specs.Parity.{Class, clean, flipped, beyond, flipWord, checkOf, decode, Outcome, cleanWord, correctedWord, uncorrectableWord, outcomeAs, outcome}
 use Rattle.paper.specs.Scan.{Pair, classAt}
 use Rattle.paper.specs.Scrub.{storedWord}
+use Rattle.paper.proofs.ParityLaw.{decode-clean}
 use Rattle.scalar.specs.Answers.{orZero}
 use Rattle.scalar.proofs.OrZero.{or-zero-in}
 use Rattle.paper.specs.Mend.{storedPair, fixAt}
@@ -25,6 +26,11 @@ put-part x ys a b h l e =
 pub told-word : (x : List ℕ) (word check w : ℕ) {o : Outcome} → 8 * word + 8 ≤ length x → w ≡ orZero (readIn 8 x (8 * word)) → o ≡ outcome w (at x check)
     → o ≡ outcome (wordAt x word) (at x check)
 told-word x word check w h e f = f ∙ ap (λ (n : ℕ). outcome n (at x check)) (e ∙ or-zero-in 8 x (8 * word) h)
+
+-- a word with the check byte that it has to have is clean
+pub told-matched : (w c k : ℕ) → k ≡ checkOf w → k ≡ c → cleanWord w ≡ outcome w c
+unfolding outcome
+told-matched w c k e f = ap (λ (r : Class). outcomeAs r w) (sym (ap (decode w) (sym f ∙ e) ∙ decode-clean w))
 
 told-clean : (k : Class) (w v : ℕ) → cleanWord v ≡ outcomeAs k w → k ≡ clean
 told-clean clean w v e = refl

@@ -1,25 +1,25 @@
 -- Scrub, word by word and region by region. Assumes nothing.
-use mathlib.Core.Path.{_≡_, refl, sym, ap, ap₂, _∙_, subst}
-use mathlib.Core.Bool.{Bool, true, false, _&&_, _||_, cond}
-use mathlib.Core.List.{List, [], _∷_, _++_}
+use mathlib.Core.Path.{_≡_, refl, ap₂, _∙_}
+use mathlib.Core.Bool.{Bool, false, _||_, cond}
+use mathlib.Core.List.{List, [], _∷_}
 use mathlib.Core.Option.{Option, none, some}
-use Prim.Native.Nat.{ℕ, zero, suc, _+_, _-_, _*_, _^_, _≤_, _<_, min}
+use Prim.Native.Nat.{ℕ, suc, _+_, _-_, _*_, _^_, _≤_, _<_}
 use native.Mathlib.Nat.{add-zero}
 use native.Mathlib.Numerals.{add-one}
 use native.Mathlib.Omega.{arith}
 use lib.ListN.{length, drop}
 use borrow.Author.Tests.{le-ltb}
-use lib.Seq.{sets, length-sets}
+use lib.Seq.{length-sets}
 use Rattle.paper.specs.Bytes.{at, wordAt, le}
 use Rattle.paper.specs.Parity.{Class, clean, flipped, beyond, flipWord, decode, Outcome, cleanWord, correctedWord, uncorrectableWord, outcomeAs, outcome}
 use Rattle.paper.specs.Refusals.{fine, refuse}
 use Rattle.paper.specs.Layout.{Entry, headerLength, count, directory}
 use Rattle.paper.specs.Parse.{parseVerdict}
 use Rattle.paper.specs.Views.{seen, nth, regionAt}
-use Rattle.paper.specs.Scan.{Pair, pairsFrom, pairsWith, classAt, isCorrected, isLost, planeOf, found, isProtected, regionPairs}
-use Rattle.paper.specs.Scrub.{State, storedWord, scrubWord, scrubWords, visited, scrubFirst, scrubRegion, scrubFrom, Scrubbed, reported, scrub}
+use Rattle.paper.specs.Scan.{Pair, pairsFrom, classAt, isCorrected, isLost, isProtected, regionPairs}
+use Rattle.paper.specs.Scrub.{State, storedWord, scrubWord, scrubWords, visited, scrubFirst, scrubRegion, scrubFrom, reported, scrub}
 use Rattle.paper.proofs.ParseLaw.{accepted-long}
-use Rattle.repair.specs.declared.scrubbing.Counts.{Counts}
+use Rattle.repair.specs.declared.counts.Counts.{Counts}
 use Rattle.repair.specs.Answers.{asState, scrubIn, Room, counted}
 use Rattle.scan.proofs.TotalLaw.{or-false}
 use Rattle.repair.proofs.NthLaw.{nth-gone, nth-there}

@@ -1,19 +1,19 @@
 -- The paper's reading of what code carries along and answers. (FORMAT 8, 10)
-use mathlib.Core.Bool.{Bool, true}
-use mathlib.Core.Option.{Option, none, some}
-use mathlib.Core.List.{List}
-use Prim.Native.Nat.{ℕ, _+_, _*_, _^_, _≤_}
+use mathlib.Core.Bool.{Bool, _||_}
+use mathlib.Core.Option.{Option}
+use mathlib.Core.List.{List, [], _∷_}
+use Prim.Native.Nat.{ℕ, _+_, _^_, _≤_}
 use lib.ListN.{length, drop}
-use Rattle.paper.specs.Layout.{Entry}
+use Rattle.paper.specs.Layout.{directory}
 use Rattle.paper.specs.Views.{seen}
-use Rattle.paper.specs.Parity.{Outcome, cleanWord, correctedWord, uncorrectableWord}
+use Rattle.paper.specs.Parity.{Class, Outcome, cleanWord, correctedWord, uncorrectableWord}
 use Rattle.paper.specs.Bytes.{given}
-use Rattle.paper.specs.Scan.{Report}
+use Rattle.paper.specs.Scan.{Report, Pair, isCorrected, isLost, total, classAt, classesAt, examined, visitsAny}
 use Rattle.paper.specs.Scrub.{State, scrubFirst}
 use Rattle.paper.specs.Mend as paper
 use Rattle.error.specs.Refused.{numberOf, detailOf}
 use Rattle.scan.specs.Answers.{asScan}
-use Rattle.repair.specs.declared.scrubbing.Counts.{Counts}
+use Rattle.repair.specs.declared.counts.Counts.{Counts}
 use Rattle.repair.specs.declared.mending.Mending.{Mending}
 use Rattle.repair.specs.declared.mending.MendResult.{MendResult}
 use Rattle.repair.specs.declared.mending.MendResult.the-variants.{Mended, Refused}
@@ -43,6 +43,27 @@ counted c uncorrectableWord = record { any = c .any; words = c .words + 1; corre
 abbrev pub reportedBy : Counts → Option Report
 reportedBy c = given (c .any) (record { words = c .words; corrected = c .corrected; uncorrectable = c .uncorrectable })
 
+abbrev pub visitedBy : Counts → Bool → Counts
+visitedBy c v = record { any = c .any || v; words = c .words; corrected = c .corrected; uncorrectable = c .uncorrectable }
+
+-- as many words more as there are classes
+abbrev pub plus : Counts → List Class → Counts
+plus c ks = record { any = c .any; words = c .words + length ks; corrected = c .corrected + total isCorrected ks; uncorrectable = c .uncorrectable + total isLost ks }
+
+-- ---- mend: what it counts
+
+-- the classes in which it meets the words, each after those before it were fixed
+unfoldable pub met : List ℕ → List Pair → List Class
+met x [] = []
+met x (p ∷ ps) = classAt x p ∷ met (paper.fixAt p x) ps
+
+abbrev pub tally : Bool → List Class → Counts
+tally v ks = record { any = v; words = length ks; corrected = total isCorrected ks; uncorrectable = total isLost ks }
+
+-- what a scan of x counts
+unfoldable pub scanned : List ℕ → Counts
+scanned x = tally (visitsAny (length x) (directory x) (directory x)) (classesAt x (examined x))
+
 -- ---- mend: its answer, with the image y that it leaves
 
 abbrev pub asMending : Mending → List ℕ → paper.Mending
@@ -56,7 +77,3 @@ asMended (Refused r) y = paper.refusedMend (numberOf r) (detailOf r)
 abbrev pub leftBy : paper.Mending → List ℕ → List ℕ
 leftBy (paper.mended y r n w) x = y
 leftBy (paper.refusedMend n d) x = x
-
-abbrev pub correctedIn : Option Report → ℕ
-correctedIn none = 0
-correctedIn (some r) = r .corrected

@@ -1,12 +1,15 @@
 // Whether the regions that hold bytes keep off the header and off each other. (FORMAT 10)
 ghost use mathlib.Core.Path.{_≡_};
-ghost use mathlib.Core.Bool.{_||_};
-ghost use mathlib.Core.List.{[]};
-ghost use Prim.Native.Nat.{ℕ, _+_, max};
-ghost use Rattle.paper.specs.Views.{seen, regionAt};
+ghost use mathlib.Core.Bool.{_&&_, _||_, cond};
+ghost use mathlib.Core.List.{List, []};
+ghost use Prim.Native.Nat.{ℕ, _+_, _^_, _<_, _≤_, max};
+ghost use lib.Dec.{leb};
+ghost use lib.ListN.{length};
+ghost use Rattle.paper.specs.Layout.{Entry};
+ghost use Rattle.paper.specs.Views.{seen};
 ghost use Rattle.paper.specs.Mend as paper;
 ghost use Rattle.layout.specs.Regions.{asEntry};
-ghost use Rattle.repair.specs.Earlier.{asCheck, before, earlierOf, highest};
+ghost use Rattle.repair.specs.Earlier.{asCheck, earlierOf, highest, lastWord, touched, Spans};
 use error::Refusal;
 use layout::Region;
 use view::Header;
@@ -20,68 +23,73 @@ pub(crate) enum Check {
 
 // The word past a region.
 fn past(region: Region) -> usize
-    ensures { λ r. ⌜ r ≡ region .«word_offset» + region .«word_length» ⌝ }
+    ensures { λ r. ⌜ (r ≡ region .«word_offset» + region .«word_length») × (region .«word_offset» < 2 ^ 32) ⌝ }
 {
     (region.word_offset as usize) + (region.word_length as usize)
 }
 
-// Two regions share a byte.
-fn meets(e: Region, f: Region) -> bool
-    ensures { λ r. ⌜ r ≡ paper.meets (asEntry e) (asEntry f) ⌝ }
+// The last word of a region, 0 for an empty one. A last word of more than 32 bits becomes the largest of 32, which no
+// entry starts behind either.
+fn last_word(region: Region) -> u32
+    ensures { λ r. ⌜ r ≡ lastWord (asEntry region) ⌝ }
 {
-    if e.word_length == 0 {
-        return false;
+    if region.word_length == 0 {
+        return 0;
     }
-    if f.word_length == 0 {
-        return false;
-    }
-    if past(f) <= e.word_offset as usize {
-        return false;
-    }
-    (f.word_offset as usize) < past(e)
-}
-
-// The region shares a byte with entry j, if there is one.
-fn meets_entry(bytes: &[u8], header: Header, j: u16, region: Region) -> bool
-    ensures { λ r. ⌜ r ≡ paper.meetsAny (asEntry region) (before (regionAt (header .«region_count») (now (bytes .entry)) j) []) ⌝ }
-{
-    match region_at(bytes, header, j) {
-        RegionAt::Found(entry) => meets(region, entry),
-        RegionAt::Nothing => false,
+    let last = past(region) - 1;
+    if last < 4294967295 {
+        last as u32
+    } else {
+        4294967295
     }
 }
 
-// The region shares a byte with an entry before entry i.
-fn meets_earlier(bytes: &[u8], header: Header, i: u16, region: Region) -> bool
-    ensures { λ r. ⌜ r ≡ paper.meetsAny (asEntry region) (earlierOf (seen (header .«region_count») (now (bytes .entry))) i) ⌝ }
+// 1 if the words from first to last and those from start to end meet.
+fn touches(first: u32, last: u32, start: u32, end: u32) -> u32
+    ensures { λ r. ⌜ (r ≡ cond (leb first end && leb start last) 1 0) × (r ≤ 1) ⌝ }
 {
-    let mut j = i;
-    while 0 < j {
-        j -= 1;
-        if meets_entry(bytes, header, j, region) {
-            return true;
-        }
+    if end < first {
+        return 0;
     }
-    false
+    if last < start {
+        return 0;
+    }
+    1
 }
 
-// Entry i starts in the header or shares a byte with an earlier one. The earlier ones end at word high at the latest, so
-// an entry that starts there or later meets none of them, and regions in ascending order are passed once.
-fn collides(bytes: &[u8], header: Header, i: u16, high: usize, region: Region) -> bool
-    requires { ⌜ high ≡ highest (earlierOf (seen (header .«region_count») (now bytes)) i) ⌝ }
-    ensures { λ r. ⌜ r ≡ paper.inHeader (header .«region_count») (asEntry region) || paper.meetsAny (asEntry region) (earlierOf (seen (header .«region_count») (now (bytes .entry))) i) ⌝ }
+// The words from first to last meet one of the first n entries: spans[j] is entry j's first word, spans[1024 + j] its
+// last. It does not stop at the first hit: a loop that always runs to its end is compiled to wide compares.
+fn meets_spans(spans: &[u32; 2048], n: usize, first: u32, last: u32) -> bool
+    requires { ⌜ n ≤ 1024 ⌝ }
+    ensures { λ r. ⌜ r ≡ touched first last (now (spans .entry)) n ⌝ }
+{
+    let mut hits: u32 = 0;
+    let mut j: usize = 0;
+    while j < n {
+        hits += touches(first, last, spans[j], spans[1024 + j]);
+        j += 1;
+    }
+    hits != 0
+}
+
+// Entry i of n starts in the header or shares a byte with an earlier one. The earlier ones end at word high at the latest,
+// so an entry that starts there or later meets none of them, and regions in ascending order are passed once.
+fn collides(spans: &[u32; 2048], n: u16, i: u16, high: usize, region: Region) -> bool
+    requires { ⌜ i < 1024 ⌝ }
+    ensures { λ r. ⌜ ((es : List Entry) → Spans es i (now (spans .entry)) → high ≡ highest (earlierOf es i)
+        → r ≡ paper.inHeader n (asEntry region) || paper.meetsAny (asEntry region) (earlierOf es i)) ⌝ }
 {
     if region.word_length == 0 {
         return false;
     }
     let offset = region.word_offset as usize;
-    if 8 * offset < 48 + 48 * (header.region_count as usize) {
+    if 8 * offset < 48 + 48 * (n as usize) {
         return true;
     }
     if high <= offset {
         return false;
     }
-    meets_earlier(bytes, header, i, region)
+    meets_spans(spans, i as usize, region.word_offset, last_word(region))
 }
 
 fn most(a: usize, b: usize) -> usize
@@ -90,7 +98,9 @@ fn most(a: usize, b: usize) -> usize
     if a < b { b } else { a }
 }
 
-pub(crate) fn check_apart(bytes: &[u8], header: Header) -> Check
+// With room for the first and the last word of each entry, so that each is voted once.
+fn check_spans(bytes: &[u8], header: Header, spans: &mut [u32; 2048]) -> Check
+    requires { ⌜ (header .«region_count» ≤ 1024) × (length (now spans) ≡ 2048) ⌝ }
     ensures { λ r. ⌜ asCheck r ≡ paper.apartVerdict (header .«region_count») 0 [] (seen (header .«region_count») (now (bytes .entry))) ⌝ }
 {
     let n = header.region_count;
@@ -101,11 +111,22 @@ pub(crate) fn check_apart(bytes: &[u8], header: Header) -> Check
         let RegionAt::Found(region) = found else {
             return Check::Fine;
         };
-        if collides(bytes, header, i, high, region) {
+        if collides(spans, n, i, high, region) {
             return Check::Refuse(Refusal::OverlappingRegions { index: i });
         }
+        let j = i as usize;
+        spans[j] = region.word_offset;
+        spans[1024 + j] = last_word(region);
         high = most(past(region), high);
         i += 1;
     }
     Check::Fine
+}
+
+pub(crate) fn check_apart(bytes: &[u8], header: Header) -> Check
+    requires { ⌜ header .«region_count» ≤ 1024 ⌝ }
+    ensures { λ r. ⌜ asCheck r ≡ paper.apartVerdict (header .«region_count») 0 [] (seen (header .«region_count») (now (bytes .entry))) ⌝ }
+{
+    let mut spans = [0u32; 2048];
+    check_spans(bytes, header, &mut spans)
 }

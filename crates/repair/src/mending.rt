@@ -1,26 +1,32 @@
 // Mend: every header copy becomes the vote, every corrected word is stored with its check byte, nothing else moves. (FORMAT 10)
 ghost use mathlib.Core.Path.{_≡_};
-ghost use mathlib.Core.Bool.{cond};
-ghost use Prim.Native.Nat.{ℕ, _+_, _*_, _<_, _≤_};
+ghost use mathlib.Core.Bool.{_||_, cond};
+ghost use Prim.Native.Nat.{ℕ, _+_, _*_, _^_, _<_, _≤_};
 ghost use lib.Dec.{eqb};
 ghost use lib.ListN.{length, set};
 ghost use Rattle.paper.specs.Bytes.{at};
 ghost use Rattle.paper.specs.Refusals.{fine};
-ghost use Rattle.paper.specs.Layout.{count, headerLength};
+ghost use Rattle.paper.specs.Layout.{count, headerLength, scrubWanted};
 ghost use Rattle.paper.specs.Parse.{parseVerdict};
-ghost use Rattle.paper.specs.Scan.{pairsFrom, scan};
+ghost use Rattle.paper.specs.Scan.{pairsFrom};
 ghost use Rattle.paper.specs.Mend as paper;
 ghost use Rattle.laws.specs.Steps.{copyVote, copyVotes, mendHeader, mendWords};
 ghost use Rattle.scan.specs.Answers.{asScan};
-ghost use Rattle.repair.specs.Answers.{asMended, asMending, leftBy, correctedIn};
+ghost use Rattle.ecc.specs.Places.{placeChecks};
+ghost use Rattle.repair.specs.Runs.{pairsAt, visitsAt};
+ghost use Rattle.repair.specs.Answers.{asMended, asMending, leftBy, Room, visitedBy, plus, met, scanned};
 use super::apart::Check;
 use super::apart::check_apart;
+use super::counts::Counts;
+use super::counts::count_word;
+use super::counts::report;
+use super::counts::visit;
 use super::runs::run_of;
 use super::words::fix_word;
+use ecc::place_checks;
 use error::Refusal;
 use scalar::maj3;
 use scan::Scan;
-use scan::verify_all;
 use view::Header;
 use view::ParseResult;
 use view::parse;
@@ -81,7 +87,7 @@ fn settle_copies(bytes: &mut [u8], base: usize, k: usize) -> usize
 }
 
 // The copies of the prologue, and those of the directory.
-fn mend_header(bytes: &mut [u8], region_count: u16) -> usize
+fn settle_header(bytes: &mut [u8], region_count: u16) -> usize
     requires { ⌜ («region_count» ≡ count (now bytes)) × (headerLength «region_count» ≤ length (now bytes)) ⌝ }
     ensures leaves { λ r. ⌜ now (bytes .exit) ≡ mendHeader (now (bytes .entry)) ⌝ }
     ensures counts { λ r. ⌜ r ≡ paper.changed (now (bytes .entry)) (now (bytes .exit)) ⌝ }
@@ -91,39 +97,81 @@ fn mend_header(bytes: &mut [u8], region_count: u16) -> usize
     prologue + directory
 }
 
-// n words from word on, with check bytes from check on, ascending.
-fn fix_words(bytes: &mut [u8], word: usize, check: usize, n: usize)
-    requires { ⌜ (8 * (word + n) ≤ length (now bytes)) × (check + n ≤ length (now bytes)) ⌝ }
-    ensures { λ r. ⌜ now (bytes .exit) ≡ paper.fixAll (pairsFrom n word check) (now (bytes .entry)) ⌝ }
+// Where parse saw no copy that differs from the vote, there is nothing to write.
+fn mend_header(bytes: &mut [u8], header: Header) -> usize
+    requires { ⌜ (header .«region_count» ≡ count (now bytes)) × (headerLength (header .«region_count») ≤ length (now bytes)) × (header .«prologue_disagreed» || header .«directory_disagreed» ≡ scrubWanted (now bytes)) ⌝ }
+    ensures leaves { λ r. ⌜ now (bytes .exit) ≡ mendHeader (now (bytes .entry)) ⌝ }
+    ensures counts { λ r. ⌜ r ≡ paper.changed (now (bytes .entry)) (now (bytes .exit)) ⌝ }
 {
+    if !header.needs_scrub() {
+        return 0;
+    }
+    settle_header(bytes, header.region_count)
+}
+
+// n words from word on, with check bytes from check on, ascending.
+fn fix_words(
+    table: &[u8; 2048],
+    bytes: &mut [u8],
+    word: usize,
+    check: usize,
+    n: usize,
+    counts: Counts,
+) -> Counts
+    requires { ⌜ (8 * (word + n) ≤ length (now bytes)) × (check + n ≤ length (now bytes)) × Room n counts × (now table ≡ placeChecks) ⌝ }
+    ensures leaves { λ r. ⌜ now (bytes .exit) ≡ paper.fixAll (pairsFrom n word check) (now (bytes .entry)) ⌝ }
+    ensures tells { λ r. ⌜ r ≡ plus counts (met (now (bytes .entry)) (pairsFrom n word check)) ⌝ }
+    ensures grows { λ r. ⌜ (r .words ≤ counts .words + n) × Room 0 r ⌝ }
+{
+    let mut total = counts;
     let mut k: usize = 0;
     while k < n {
-        fix_word(bytes, word + k, check + k);
+        let status = fix_word(table, bytes, word + k, check + k);
+        total = count_word(total, status);
         k += 1;
     }
+    total
 }
 
-// Every examined word.
-fn mend_words(bytes: &mut [u8], header: Header)
+// Entry i of the image as it stands, if there is one.
+fn mend_region(
+    table: &[u8; 2048],
+    bytes: &mut [u8],
+    header: Header,
+    i: u16,
+    counts: Counts,
+) -> Counts
+    requires { ⌜ Room (2 ^ 32) counts × (now table ≡ placeChecks) ⌝ }
+    ensures leaves { λ r. ⌜ now (bytes .exit) ≡ paper.fixAll (pairsAt (header .«region_count») (now (bytes .entry)) i) (now (bytes .entry)) ⌝ }
+    ensures tells { λ r. ⌜ r ≡ plus (visitedBy counts (visitsAt (header .«region_count») (now (bytes .entry)) i)) (met (now (bytes .entry)) (pairsAt (header .«region_count») (now (bytes .entry)) i)) ⌝ }
+    ensures grows { λ r. ⌜ (r .words ≤ counts .words + 2 ^ 32) × Room 0 r ⌝ }
+{
+    let run = run_of(bytes, header, i);
+    let total = visit(counts, run.visited);
+    fix_words(table, bytes, run.word, run.check, run.words, total)
+}
+
+// Every examined word, and what a scan would have counted: regions are laid apart, so no word is met that another's repair moved.
+fn mend_words(bytes: &mut [u8], header: Header) -> Counts
     requires { ⌜ (header .«region_count» ≡ count (now bytes)) × (paper.mendVerdict (now bytes) ≡ fine) ⌝ }
-    ensures { λ r. ⌜ now (bytes .exit) ≡ mendWords (now (bytes .entry)) ⌝ }
+    ensures leaves { λ r. ⌜ now (bytes .exit) ≡ mendWords (now (bytes .entry)) ⌝ }
+    ensures tells { λ r. ⌜ r ≡ scanned (now (bytes .entry)) ⌝ }
 {
     let n = header.region_count;
+    let mut table = [0u8; 2048];
+    place_checks(&mut table);
+    let mut counts = Counts {
+        any: false,
+        words: 0,
+        corrected: 0,
+        uncorrectable: 0,
+    };
     let mut i: u16 = 0;
     while i < n {
-        let run = run_of(bytes, header, i);
-        fix_words(bytes, run.word, run.check, run.words);
+        counts = mend_region(&table, bytes, header, i, counts);
         i += 1;
     }
-}
-
-fn corrected_in(report: Scan) -> usize
-    ensures { λ r. ⌜ r ≡ correctedIn (asScan report) ⌝ }
-{
-    match report {
-        Scan::Report(counts) => counts.corrected,
-        Scan::Nothing => 0,
-    }
+    counts
 }
 
 // Nothing is whole without a report.
@@ -136,28 +184,25 @@ fn is_whole(report: Scan) -> bool
     }
 }
 
-// Of an image whose regions are laid apart. The words are passed a second time only where one of them is to be stored.
+// Of an image whose regions are laid apart. The words are passed once: the header's votes move none of them.
 fn mend_apart(bytes: &mut [u8], header: Header) -> Mending
-    requires { ⌜ (header .«region_count» ≡ count (now bytes)) × (paper.mendVerdict (now bytes) ≡ fine) ⌝ }
+    requires { ⌜ (header .«region_count» ≡ count (now bytes)) × (paper.mendVerdict (now bytes) ≡ fine) × (header .«prologue_disagreed» || header .«directory_disagreed» ≡ scrubWanted (now bytes)) ⌝ }
     ensures is { λ r. ⌜ asMending r (now (bytes .exit)) ≡ paper.mend (now (bytes .entry)) ⌝ }
     ensures leaves { λ r. ⌜ now (bytes .exit) ≡ paper.mendBytes (now (bytes .entry)) ⌝ }
 {
-    let report = verify_all(bytes, header);
-    let in_header = mend_header(bytes, header.region_count);
-    let in_words = corrected_in(report);
-    if in_words != 0 {
-        mend_words(bytes, header);
-    }
+    let in_header = mend_header(bytes, header);
+    let counts = mend_words(bytes, header);
+    let report = report(counts);
     Mending {
         report,
-        stored: in_header + in_words,
+        stored: in_header + counts.corrected,
         whole: is_whole(report),
     }
 }
 
 // Of an image that parses.
 fn mend_parsed(bytes: &mut [u8], header: Header) -> MendResult
-    requires { ⌜ (header .«region_count» ≡ count (now bytes)) × (parseVerdict (now bytes) ≡ fine) ⌝ }
+    requires { ⌜ (header .«region_count» ≡ count (now bytes)) × (parseVerdict (now bytes) ≡ fine) × (header .«prologue_disagreed» || header .«directory_disagreed» ≡ scrubWanted (now bytes)) ⌝ }
     ensures is { λ r. ⌜ asMended r (now (bytes .exit)) ≡ paper.mend (now (bytes .entry)) ⌝ }
     ensures leaves { λ r. ⌜ now (bytes .exit) ≡ leftBy (paper.mend (now (bytes .entry))) (now (bytes .entry)) ⌝ }
 {

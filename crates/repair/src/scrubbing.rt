@@ -1,94 +1,62 @@
 // Scrub, as the Rust has it: corrected words are written, counts are handed back. (FORMAT 8)
 ghost use mathlib.Core.Path.{_≡_};
-ghost use mathlib.Core.Bool.{_||_};
 ghost use Prim.Native.Nat.{ℕ, _+_, _*_, _^_, _<_, _≤_};
 ghost use lib.ListN.{length};
 ghost use Rattle.paper.specs.Scan.{pairsFrom};
 ghost use Rattle.scan.specs.Answers.{asScan};
 ghost use Rattle.paper.specs.Scrub as paper;
-ghost use Rattle.ecc.specs.Answers.{asOutcome};
-ghost use Rattle.repair.specs.Answers.{asState, scrubIn, Room, counted, reportedBy};
+ghost use Rattle.ecc.specs.Places.{placeChecks};
+ghost use Rattle.repair.specs.Answers.{asState, scrubIn, Room};
+use super::counts::Counts;
+use super::counts::count_word;
+use super::counts::report;
+use super::counts::visit;
 use super::runs::run_of;
 use super::words::scrub_word;
-use ecc::EccReport;
-use ecc::WordStatus;
+use ecc::place_checks;
 use scan::Scan;
 use view::Header;
 use view::ParseResult;
 use view::parse;
 
-// What is counted so far, and whether any region was visited.
-pub(crate) struct Counts {
-    pub any: bool,
-    pub words: usize,
-    pub corrected: usize,
-    pub uncorrectable: usize,
-}
-
-// One word more.
-fn count_word(counts: Counts, status: WordStatus) -> Counts
-    requires { ⌜ Room 1 counts ⌝ }
-    ensures { λ r. ⌜ r ≡ counted counts (asOutcome status) ⌝ }
-{
-    match status {
-        WordStatus::Clean(_) => Counts {
-            any: counts.any,
-            words: counts.words + 1,
-            corrected: counts.corrected,
-            uncorrectable: counts.uncorrectable,
-        },
-        WordStatus::Corrected(_) => Counts {
-            any: counts.any,
-            words: counts.words + 1,
-            corrected: counts.corrected + 1,
-            uncorrectable: counts.uncorrectable,
-        },
-        WordStatus::Uncorrectable => Counts {
-            any: counts.any,
-            words: counts.words + 1,
-            corrected: counts.corrected,
-            uncorrectable: counts.uncorrectable + 1,
-        },
-    }
-}
-
 // n words from word on, with check bytes from check on, ascending.
-fn scrub_words(bytes: &mut [u8], word: usize, check: usize, n: usize, counts: Counts) -> Counts
-    requires { ⌜ (8 * (word + n) ≤ length (now bytes)) × (check + n ≤ length (now bytes)) × Room n counts ⌝ }
+fn scrub_words(
+    table: &[u8; 2048],
+    bytes: &mut [u8],
+    word: usize,
+    check: usize,
+    n: usize,
+    counts: Counts,
+) -> Counts
+    requires { ⌜ (8 * (word + n) ≤ length (now bytes)) × (check + n ≤ length (now bytes)) × Room n counts × (now table ≡ placeChecks) ⌝ }
     ensures is { λ r. ⌜ asState r (now (bytes .exit)) ≡ paper.scrubWords (pairsFrom n word check) (asState counts (now (bytes .entry))) ⌝ }
     ensures grows { λ r. ⌜ (r .words ≤ counts .words + n) × Room 0 r ⌝ }
 {
     let mut total = counts;
     let mut k: usize = 0;
     while k < n {
-        let status = scrub_word(bytes, word + k, check + k);
+        let status = scrub_word(table, bytes, word + k, check + k);
         total = count_word(total, status);
         k += 1;
     }
     total
 }
 
-// A region that is visited makes for a report.
-fn visit(counts: Counts, visited: bool) -> Counts
-    ensures { λ r. ⌜ r ≡ record { any = counts .any || visited; words = counts .words; corrected = counts .corrected; uncorrectable = counts .uncorrectable } ⌝ }
-{
-    Counts {
-        any: counts.any || visited,
-        words: counts.words,
-        corrected: counts.corrected,
-        uncorrectable: counts.uncorrectable,
-    }
-}
-
 // Entry i of the image as it stands, if there is one.
-fn scrub_region(bytes: &mut [u8], header: Header, i: u16, counts: Counts) -> Counts
-    requires { ⌜ Room (2 ^ 32) counts ⌝ }
+fn scrub_region(
+    table: &[u8; 2048],
+    bytes: &mut [u8],
+    header: Header,
+    i: u16,
+    counts: Counts,
+) -> Counts
+    requires { ⌜ Room (2 ^ 32) counts × (now table ≡ placeChecks) ⌝ }
     ensures grows { λ r. ⌜ (r .words ≤ counts .words + 2 ^ 32) × Room 0 r ⌝ }
     ensures is { λ r. ⌜ asState r (now (bytes .exit)) ≡ scrubIn (header .«region_count») i (asState counts (now (bytes .entry))) ⌝ }
 {
     let run = run_of(bytes, header, i);
     let total = visit(counts, run.visited);
-    scrub_words(bytes, run.word, run.check, run.words, total)
+    scrub_words(table, bytes, run.word, run.check, run.words, total)
 }
 
 // Repairs the corrected words of every protected region and hands back counts: what is left has to be checked afresh.
@@ -100,6 +68,8 @@ pub fn scrub(bytes: &mut [u8]) -> Scan
     let ParseResult::Parsed(first) = parse(bytes) else {
         return Scan::Nothing;
     };
+    let mut table = [0u8; 2048];
+    place_checks(&mut table);
     let mut header = first;
     let mut written: usize = 0;
     let mut counts = Counts {
@@ -117,21 +87,8 @@ pub fn scrub(bytes: &mut [u8]) -> Scan
             header = again;
             written = counts.corrected;
         }
-        counts = scrub_region(bytes, header, i, counts);
+        counts = scrub_region(&table, bytes, header, i, counts);
         i += 1;
     }
     report(counts)
-}
-
-fn report(counts: Counts) -> Scan
-    ensures { λ r. ⌜ asScan r ≡ reportedBy counts ⌝ }
-{
-    if !counts.any {
-        return Scan::Nothing;
-    }
-    Scan::Report(EccReport {
-        words: counts.words,
-        corrected: counts.corrected,
-        uncorrectable: counts.uncorrectable,
-    })
 }

@@ -8,9 +8,10 @@ ghost use Rattle.paper.specs.Scan.{classAt};
 ghost use Rattle.paper.specs.Scrub.{storedWord};
 ghost use Rattle.paper.specs.Mend.{fixAt};
 ghost use Rattle.ecc.specs.Answers.{asOutcome};
+ghost use Rattle.ecc.specs.Places.{placeChecks};
 use ecc::WordStatus;
-use ecc::check_byte;
-use ecc::decode_word;
+use ecc::check_by;
+use ecc::decode_by;
 use scalar::u64_bytes;
 use scalar::u64_or_zero;
 
@@ -27,15 +28,34 @@ pub(crate) fn store_word(part: &mut [u8], value: u64)
     }
 }
 
-// A word with its check byte, as they stand. Only a corrected word is written, never its check byte.
-pub(crate) fn scrub_word(bytes: &mut [u8], word: usize, check: usize) -> WordStatus
-    requires { ⌜ (8 * word + 8 ≤ length (now bytes)) × (check < length (now bytes)) ⌝ }
+// What a word and its check byte say, as they stand.
+fn status_at(table: &[u8; 2048], bytes: &[u8], word: usize, check: usize) -> WordStatus
+    requires { ⌜ (8 * word + 8 ≤ length (now bytes)) × (check < length (now bytes)) × (now table ≡ placeChecks) ⌝ }
+    ensures { λ r. ⌜ asOutcome r ≡ outcome (wordAt (now (bytes .entry)) word) (at (now (bytes .entry)) check) ⌝ }
+{
+    let data = u64_or_zero(bytes, 8 * word);
+    let found = bytes[check];
+    // A clean word, which nearly every one is, is told by its check byte.
+    if check_by(table, data) == found {
+        return WordStatus::Clean(data);
+    }
+    decode_by(table, data, found)
+}
+
+// A word with its check byte. Only a corrected word is written, never its check byte.
+pub(crate) fn scrub_word(
+    table: &[u8; 2048],
+    bytes: &mut [u8],
+    word: usize,
+    check: usize,
+) -> WordStatus
+    requires { ⌜ (8 * word + 8 ≤ length (now bytes)) × (check < length (now bytes)) × (now table ≡ placeChecks) ⌝ }
     ensures is { λ r. ⌜ asOutcome r ≡ outcome (wordAt (now (bytes .entry)) word) (at (now (bytes .entry)) check) ⌝ }
     ensures stores { λ r. ⌜ now (bytes .exit) ≡ storedWord (classAt (now (bytes .entry)) (record { word = word; check = check })) (record { word = word; check = check }) (now (bytes .entry)) ⌝ }
 {
     let start = 8 * word;
     let end = start + 8;
-    let status = decode_word(u64_or_zero(bytes, start), bytes[check]);
+    let status = status_at(table, bytes, word, check);
     match status {
         WordStatus::Clean(_) => {}
         WordStatus::Corrected(fixed) => {
@@ -46,20 +66,27 @@ pub(crate) fn scrub_word(bytes: &mut [u8], word: usize, check: usize) -> WordSta
     status
 }
 
-// A word with its check byte, as they stand. A corrected word is written with the check byte that it has to have.
-pub(crate) fn fix_word(bytes: &mut [u8], word: usize, check: usize)
-    requires { ⌜ (8 * word + 8 ≤ length (now bytes)) × (check < length (now bytes)) ⌝ }
-    ensures { λ r. ⌜ now (bytes .exit) ≡ fixAt (record { word = word; check = check }) (now (bytes .entry)) ⌝ }
+// A word with its check byte. A corrected word is written with the check byte that it has to have.
+pub(crate) fn fix_word(
+    table: &[u8; 2048],
+    bytes: &mut [u8],
+    word: usize,
+    check: usize,
+) -> WordStatus
+    requires { ⌜ (8 * word + 8 ≤ length (now bytes)) × (check < length (now bytes)) × (now table ≡ placeChecks) ⌝ }
+    ensures is { λ r. ⌜ asOutcome r ≡ outcome (wordAt (now (bytes .entry)) word) (at (now (bytes .entry)) check) ⌝ }
+    ensures stores { λ r. ⌜ now (bytes .exit) ≡ fixAt (record { word = word; check = check }) (now (bytes .entry)) ⌝ }
 {
     let start = 8 * word;
     let end = start + 8;
-    let status = decode_word(u64_or_zero(bytes, start), bytes[check]);
+    let status = status_at(table, bytes, word, check);
     match status {
         WordStatus::Clean(_) => {}
         WordStatus::Corrected(fixed) => {
-            bytes[check] = check_byte(fixed);
+            bytes[check] = check_by(table, fixed);
             store_word(&mut bytes[start..end], fixed);
         }
         WordStatus::Uncorrectable => {}
     }
+    status
 }

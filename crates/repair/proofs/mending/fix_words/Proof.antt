@@ -1,19 +1,24 @@
--- `repair::mending::fix_words` meets its contract. The invariant: the words that are left take the image where it has to go. Assumes nothing.
-use mathlib.Core.Path.{_≡_, refl, sym, ap, _∙_}
-use Prim.Native.Nat.{_+_, _-_, _≤_}
+-- `repair::mending::fix_words` meets its contract. The invariant: the words that are left take image and counts where they have to go. Assumes nothing.
+use mathlib.Core.Path.{_≡_, refl, sym, ap, _∙_, subst}
+use Prim.Native.Nat.{ℕ, suc, _+_, _-_, _≤_}
 use native.Mathlib.Omega.{arith}
 use lib.ListN.{length, take}
 use Rattle.paper.specs.Scan.{pairsFrom}
 use Rattle.paper.specs.Mend.{fixAll}
+use Rattle.ecc.specs.Answers.{asOutcome}
+use Rattle.repair.specs.Answers.{Room, plus, met}
+use Rattle.repair.proofs.ScrubbingLaw.{room-next, counted-words}
+use Rattle.repair.proofs.MetLaw.{met-next, met-done}
 use Rattle.repair.proofs.MendingLaw.{fix-next, fix-done}
+use Rattle.repair.specs.declared.counts.Counts.{Counts}
 use Rattle.repair.proofs.mending.fix_words.Statement.{statement}
 use Rattle.repair.proofs.mending.fix_words.Tie as tie
 
 abbrev Inv-loop : tie.InvT-loop
-Inv-loop bytes₀ word check n k₀ bytes k = (k ≤ n) × (length bytes ≡ length bytes₀) × (fixAll (pairsFrom (n - k) (word + k) (check + k)) bytes ≡ fixAll (pairsFrom n word check) bytes₀)
+Inv-loop table bytes₀ word check n total₀ k₀ bytes total k = (k ≤ n) × (length bytes ≡ length bytes₀) × Room (n - k) total × (fixAll (pairsFrom (n - k) (word + k) (check + k)) bytes ≡ fixAll (pairsFrom n word check) bytes₀) × (plus total (met bytes (pairsFrom (n - k) (word + k) (check + k))) ≡ plus total₀ (met bytes₀ (pairsFrom n word check))) × (total .words ≡ total₀ .words + k)
 
 abbrev μ-loop : tie.MeasureT-loop
-μ-loop bytes₀ word check n k₀ bytes k = n - k
+μ-loop table bytes₀ word check n total₀ k₀ bytes total k = n - k
 
 loop-holds : tie.Need-loop-holds Inv-loop μ-loop
 loop-holds c =
@@ -21,24 +26,46 @@ loop-holds c =
     let n : g .n - 0 ≡ g .n = omega arith in
     let w : g .word + 0 ≡ g .word = omega arith in
     let k : g .check + 0 ≡ g .check = omega arith in
-    (omega arith, refl, rw (n, w, k))
+    (omega arith, refl, rw n (c .before .pre .2), rw (n, w, k), rw (n, w, k), omega arith)
+
+fix-word-requires : tie.Need-fix-word-requires Inv-loop μ-loop
+fix-word-requires c κs = (omega arith, omega arith, c .before .before .before .before .pre .3)
+
+count-word-requires : tie.Need-count-word-requires Inv-loop μ-loop
+count-word-requires c κs =
+    let r = c .before .before .before .before .before .loop .inv .2 in
+    record { words = omega (arith, r .words); corrected = r .corrected; uncorrectable = r .uncorrectable }
 
 loop-again : tie.Need-loop-again Inv-loop μ-loop
 loop-again c =
-    let l = c .before .before .before .before .before .loop in
-    let g = c .before .before .before .before .before .before .before .args in
-    let o = c .before .before .fix-word in (
+    let v = c .before .before .before in
+    let a = v .before .before .before in
+    let g = a .before .before .args in
+    let k = a .loop .k in
+    let o = asOutcome (v .fix-word .result) in
+    let n : g .n - k ≡ suc (g .n - (k + 1)) = omega arith in (
       omega arith,
-      omega (arith, c .before .bytes .given),
-      ap (fixAll (pairsFrom (g .n - (l .k + 1)) (g .word + (l .k + 1)) (g .check + (l .k + 1)))) (o .ensures)
-          ∙ sym (fix-next (g .n) (g .word) (g .check) (l .k) (l .bytes) (omega arith)) ∙ l .inv .2,
+      omega (arith, v .before .before .before .loop .inv .1, c .before .before .bytes .given),
+      subst (Room (g .n - (k + 1))) (sym (c .count-word .ensures))
+          (room-next (g .n - (k + 1)) (a .loop .total) o (subst (λ (m : ℕ). Room m (a .loop .total)) n (a .loop .inv .2))),
+      ap (fixAll (pairsFrom (g .n - (k + 1)) (g .word + (k + 1)) (g .check + (k + 1)))) (v .fix-word .ensures .1)
+          ∙ sym (fix-next (g .n) (g .word) (g .check) k (a .loop .bytes) (omega arith)) ∙ a .loop .inv .3,
+      ap (λ (z : Counts). plus z (met (v .fix-word .last .1 .0) (pairsFrom (g .n - (k + 1)) (g .word + (k + 1)) (g .check + (k + 1))))) (c .count-word .ensures)
+          ∙ met-next (g .n) (g .word) (g .check) k (a .loop .total) (a .loop .bytes) (v .fix-word .last .1 .0) o (omega arith) (v .fix-word .ensures .0) (v .fix-word .ensures .1) ∙ a .loop .inv .4,
+      ap (λ (z : Counts). z .words) (c .count-word .ensures) ∙ counted-words (a .loop .total) o ∙ omega arith,
     )
 
 returns : tie.Need-returns Inv-loop μ-loop
 returns c =
-    let l = c .before .loop in
-    let g = c .before .before .before .args in
-    sym (fix-done (g .n) (g .word) (g .check) (l .k) (l .bytes) (omega arith)) ∙ l .inv .2
+    let a = c .before in
+    let g = a .before .before .args in
+    let r = a .loop .inv .2 in (
+      sym (fix-done (g .n) (g .word) (g .check) (a .loop .k) (a .loop .bytes) (omega arith)) ∙ a .loop .inv .3,
+      (
+        sym (met-done (g .n) (g .word) (g .check) (a .loop .k) (a .loop .total) (a .loop .bytes) (omega arith)) ∙ a .loop .inv .4,
+        (omega arith, record { words = omega (arith, r .words); corrected = r .corrected; uncorrectable = r .uncorrectable }),
+      ),
+    )
 
 pub fix-words-spec : {M : Type 1} → statement M
 fix-words-spec =
@@ -49,7 +76,8 @@ fix-words-spec =
     loop-holds
     (λ c. omega arith)
     (λ c. omega arith)
-    (λ c κs. omega arith)
+    fix-word-requires
+    count-word-requires
     (λ c. omega arith)
     (λ c. omega arith)
     loop-again

@@ -1,13 +1,12 @@
 -- `repair::mending::mend` meets its contract. Assumes nothing.
 use mathlib.Core.Path.{sym, ap}
-use Prim.Native.Nat.{_+_, _-_}
 use borrow.Author.Needs.{needs}
 use denote.Ref.{now}
 use Rattle.paper.specs.Mend as paper
 use Rattle.view.proofs.AnswersLaw.{parsed-fine, parsed-count, parsed-refused}
 use Rattle.repair.specs.Answers.{leftBy}
 use Rattle.repair.proofs.MendingLaw.{mend-refused}
-use borrow.Author.Needs.{needs}
+use Rattle.repair.proofs.AgreeLaw.{parsed-wanted}
 use Rattle.repair.proofs.mending.mend.Statement.{statement}
 use Rattle.repair.proofs.mending.mend.Tie as tie
 
@@ -16,7 +15,7 @@ mend-parsed-requires c κs =
     let r = c .before .before .before .before .parse in
     let x = now (c .before .before .before .before .before .before .before .args .bytes) in
     let h = c .before .before .header .given in
-    (parsed-count x (r .result) (r .ensures) (h .0 .0) (h .1), parsed-fine x (r .result) (r .ensures) (h .0 .0) (h .1))
+    (parsed-count x (r .result) (r .ensures) (h .0 .0) (h .1), parsed-fine x (r .result) (r .ensures) (h .0 .0) (h .1), parsed-wanted x (r .result) (r .ensures) (h .0 .0) (h .1))
 
 returns : tie.Need-returns
 returns c =

@@ -1,81 +1,77 @@
 -- `repair::mending::mend_apart` meets its contract. Assumes nothing.
 use mathlib.Core.Path.{_≡_, sym, ap, ap₂, _∙_, subst}
-use mathlib.Core.Logic.{⊎-elim}
 use mathlib.Core.Bool.{Bool}
 use mathlib.Core.List.{List}
 use mathlib.Core.Option.{Option}
-use Prim.Native.Nat.{ℕ, _+_, _-_, _≤_}
+use Prim.Native.Nat.{ℕ, _+_, _≤_}
 use native.Mathlib.Omega.{arith}
 use borrow.Author.Needs.{needs}
 use denote.Ref.{now}
 use lib.ListN.{length}
 use Rattle.paper.specs.Bytes.{Bytes}
+use Rattle.paper.specs.Refusals.{fine}
 use Rattle.paper.specs.Layout.{headerLength}
-use Rattle.paper.specs.Scan.{Report, scan, scanIn}
+use Rattle.paper.specs.Scan.{Report, scan}
 use Rattle.paper.specs.Mend as paper
-use Rattle.paper.specs.Mend.{changed, mendBytes}
-use Rattle.laws.specs.Steps.{mendWords}
-use Rattle.laws.proofs.Apart.{parsed, accepted}
+use Rattle.paper.specs.Mend.{mendVerdict, changed, mendBytes}
+use Rattle.laws.specs.Steps.{mendHeader, mendWords}
+use Rattle.laws.proofs.Apart.{accepted}
 use Rattle.scan.specs.Answers.{asScan}
-use Rattle.repair.specs.Answers.{correctedIn}
+use Rattle.repair.specs.declared.counts.Counts.{Counts}
+use Rattle.repair.specs.Answers.{reportedBy, scanned}
 use Rattle.repair.proofs.SettleLaw.{changed-most}
-use Rattle.repair.proofs.MendingLaw.{scan-is, after-header, mended-all, mended-none, all-stored, mend-fine}
-use borrow.Author.Needs.{needs}
+use Rattle.repair.proofs.MendingLaw.{after-header, mended-all, header-scanned, scanned-report, all-stored, mend-fine}
 use Rattle.repair.proofs.mending.mend_apart.Statement.{statement}
 use Rattle.repair.proofs.mending.mend_apart.Tie as tie
 
 mend-header-requires : tie.Need-mend-header-requires
 mend-header-requires c κs =
-    let s = c .before .before .before .before in
+    let s = c .before .before in
     let x = now (s .args .bytes) in
-    (s .pre .0, subst (λ (n : ℕ). headerLength n ≤ length x) (sym (s .pre .0)) (accepted x (s .pre .1) .long))
+    (s .pre .0, subst (λ (n : ℕ). headerLength n ≤ length x) (sym (s .pre .0)) (accepted x (s .pre .1) .long), s .pre .2)
 
 mend-words-requires : tie.Need-mend-words-requires
 mend-words-requires c κs =
-    let h = c .before .before .before .before .before .mend-header in
-    let bs = c .before .before .before .before .before .before .before .before .before .slice-known in
-    let s = c .before .before .before .before .before .before .before .before .before .before in
+    let h = c .before .before .before .mend-header in
+    let bs = c .before .before .before .before .before .slice-known in
+    let s = c .before .before .before .before .before .before in
     let x = now (s .args .bytes) in
     after-header x (s .pre .1) (record { small = λ p. omega (arith, bs .given p .fits) }) (s .args .header .«region_count») (h .last .0) (s .pre .0) (h .ensures .0)
 
-add-t14 : tie.Need-add-t14
-add-t14 c =
-    let w = c .before .corrected-in in
-    let h = c .before .before .before .before .mend-header in
-    let r = c .before .before .before .before .before .before .verify-all in
-    let bs = c .before .before .before .before .before .before .before .before .slice-known in
-    let s = c .before .before .before .before .before .before .before .before .before in
-    let x = now (s .args .bytes) in
-    let v = s .pre .1 in
-    let bx : Bytes x = record { small = λ p. omega (arith, bs .given p .fits) } in
-    let scanned : asScan (r .result) ≡ scan x = r .ensures ∙ ap (λ (n : ℕ). scanIn n x) (s .pre .0) ∙ scan-is x (parsed x v) in
-    let stored : h .result + w .result ≡ changed x (mendBytes x) =
-    all-stored x v bx (h .result) (w .result) (h .ensures .1 ∙ ap (changed x) (h .ensures .0)) (w .ensures ∙ ap correctedIn scanned) in
-    omega (arith, stored, changed-most x (mendBytes x))
+-- header bytes and corrected words make up what is stored
+module _ (x y : List ℕ) (v : mendVerdict x ≡ fine) (b : Bytes x) (h : ℕ) (e : y ≡ mendHeader x) (n : h ≡ changed x y) (t : Counts) (f : t ≡ scanned y) where
+  as-scanned : t ≡ scanned x
+  as-scanned = f ∙ ap scanned e ∙ header-scanned x v b
 
-same-length : tie.Need-same-length
-same-length c =
-    ⊎-elim (λ w. omega (arith, w .3 .given, c .before .before .before .before .bytes .given, ap length (w .5))) (λ w. omega (arith, c .before .before .before .before .bytes .given, ap length (w .1))) (c .before .if1 .came)
+  stored : h + t .corrected ≡ changed x (mendBytes x)
+  stored = all-stored x v b h (t .corrected) (n ∙ ap (changed x) e) (ap (λ (q : Counts). q .corrected) as-scanned)
+
+add-t10 : tie.Need-add-t10
+add-t10 c =
+    let w = c .before .before .before .before .mend-words in
+    let h = c .before .before .before .before .before .before .before .before .mend-header in
+    let bs = c .before .before .before .before .before .before .before .before .before .before .slice-known in
+    let s = c .before .before .before .before .before .before .before .before .before .before .before in
+    let x = now (s .args .bytes) in
+    let e = stored x (h .last .0) (s .pre .1) (record { small = λ p. omega (arith, bs .given p .fits) }) (h .result) (h .ensures .0) (h .ensures .1) (w .result) (w .ensures .1) in
+    omega (arith, e, changed-most x (mendBytes x))
 
 returns : tie.Need-returns
 returns c =
-    let w = c .before .before .corrected-in in
-    let h = c .before .before .before .before .before .mend-header in
-    let r = c .before .before .before .before .before .before .before .verify-all in
-    let bs = c .before .before .before .before .before .before .before .before .before .slice-known in
-    let s = c .before .before .before .before .before .before .before .before .before .before in
+    let r = c .before .before .report in
+    let w = c .before .before .before .before .before .mend-words in
+    let h = c .before .before .before .before .before .before .before .before .before .mend-header in
+    let bs = c .before .before .before .before .before .before .before .before .before .before .before .slice-known in
+    let s = c .before .before .before .before .before .before .before .before .before .before .before .before in
     let x = now (s .args .bytes) in
     let v = s .pre .1 in
     let bx : Bytes x = record { small = λ p. omega (arith, bs .given p .fits) } in
-    let scanned : asScan (r .result) ≡ scan x = r .ensures ∙ ap (λ (n : ℕ). scanIn n x) (s .pre .0) ∙ scan-is x (parsed x v) in
-    let stored : h .result + w .result ≡ changed x (mendBytes x) =
-    all-stored x v bx (h .result) (w .result) (h .ensures .1 ∙ ap (changed x) (h .ensures .0)) (w .ensures ∙ ap correctedIn scanned) in
-    let left : c .before .if1 .bytes ≡ mendBytes x =
-    ⊎-elim (λ u. u .5 ∙ u .2 .ensures ∙ ap mendWords (h .ensures .0) ∙ mended-all x v bx)
-    (λ u. u .1 ∙ h .ensures .0 ∙ mended-none x v bx (ap correctedIn (sym scanned) ∙ sym (w .ensures) ∙ omega (arith, u .0 .left)))
-    (c .before .if1 .came) in (
-      ap₂ (λ (y : List ℕ) (o : Option Report). paper.mended y o (h .result + w .result) (c .is-whole .result)) left scanned
-          ∙ ap₂ (λ (n : ℕ) (t : Bool). paper.mended (mendBytes x) (scan x) n t) stored (c .is-whole .ensures ∙ ap paper.wholeOf scanned)
+    let told : asScan (r .result) ≡ scan x =
+    r .ensures ∙ ap reportedBy (as-scanned x (h .last .0) v bx (h .result) (h .ensures .0) (h .ensures .1) (w .result) (w .ensures .1)) ∙ scanned-report x in
+    let left : w .last .0 ≡ mendBytes x = w .ensures .0 ∙ ap mendWords (h .ensures .0) ∙ mended-all x v bx in (
+      ap₂ (λ (y : List ℕ) (o : Option Report). paper.mended y o (h .result + w .result .corrected) (c .is-whole .result)) left told
+          ∙ ap₂ (λ (n : ℕ) (t : Bool). paper.mended (mendBytes x) (scan x) n t)
+          (stored x (h .last .0) v bx (h .result) (h .ensures .0) (h .ensures .1) (w .result) (w .ensures .1)) (c .is-whole .ensures ∙ ap paper.wholeOf told)
           ∙ sym (mend-fine x v),
       left,
     )
@@ -84,11 +80,10 @@ pub mend-apart-spec : {M : Type 1} → statement M
 mend-apart-spec =
     tie.close
     (tie.spec
-    (λ c κs. search needs)
     mend-header-requires
-    (λ c κs. search needs)
     mend-words-requires
-    add-t14
     (λ c κs. search needs)
-    same-length
+    add-t10
+    (λ c κs. search needs)
+    (λ c. search needs)
     returns)

@@ -1,25 +1,29 @@
 -- `repair::mending::mend_parsed` meets its contract. Assumes nothing.
 use mathlib.Core.Path.{sym, ap, _∙_}
 use mathlib.Core.List.{[]}
-use Prim.Native.Nat.{ℕ, _+_, _-_}
+use Prim.Native.Nat.{ℕ}
+use native.Mathlib.Omega.{arith}
 use borrow.Author.Needs.{needs}
 use denote.Ref.{now}
 use Rattle.paper.specs.Layout.{count}
 use Rattle.paper.specs.Mend as paper
+use Rattle.paper.proofs.ParseLaw.{accepted-few}
 use Rattle.repair.specs.Answers.{leftBy}
 use Rattle.repair.specs.Earlier.{asCheck}
 use Rattle.repair.proofs.MendingLaw.{seen-is, apart-refused, apart-fine, mend-fine}
 use Rattle.paper.specs.Views.{seen}
-use borrow.Author.Needs.{needs}
 use Rattle.repair.proofs.mending.mend_parsed.Statement.{statement}
 use Rattle.repair.proofs.mending.mend_parsed.Tie as tie
+
+check-apart-requires : tie.Need-check-apart-requires
+check-apart-requires c κs = let s = c .before .before in omega (arith, s .pre .0, accepted-few (now (s .args .bytes)) (s .pre .1))
 
 mend-apart-requires : tie.Need-mend-apart-requires
 mend-apart-requires c κs =
     let k = c .before .before .before .check-apart in
     let s = c .before .before .before .before .before .before in
     let x = now (s .args .bytes) in
-    (s .pre .0, apart-fine x (s .pre .1) (sym (ap asCheck (sym (c .before .enum-told .given .1)) ∙ k .ensures ∙ ap (λ (n : ℕ). paper.apartVerdict n 0 [] (seen n x)) (s .pre .0) ∙ ap (paper.apartVerdict (count x) 0 []) (seen-is x (s .pre .1)))))
+    (s .pre .0, apart-fine x (s .pre .1) (sym (ap asCheck (sym (c .before .enum-told .given .1)) ∙ k .ensures ∙ ap (λ (n : ℕ). paper.apartVerdict n 0 [] (seen n x)) (s .pre .0) ∙ ap (paper.apartVerdict (count x) 0 []) (seen-is x (s .pre .1)))), s .pre .2)
 
 returns : tie.Need-returns
 returns c =
@@ -42,7 +46,7 @@ pub mend-parsed-spec : {M : Type 1} → statement M
 mend-parsed-spec =
     tie.close
     (tie.spec
-    (λ c κs. search needs)
+    check-apart-requires
     (λ c. search needs)
     (λ c. search needs)
     mend-apart-requires

@@ -1,52 +1,61 @@
--- `repair::mending::mend_words` meets its contract. The invariant: the entries before i are done. Assumes nothing.
+-- `repair::mending::mend_words` meets its contract. The invariant: the entries before i are done and counted. Assumes nothing.
 use mathlib.Core.Path.{_≡_, refl, sym, ap, _∙_}
-use Prim.Native.Nat.{ℕ, suc, _+_, _-_, _≤_}
+use Prim.Native.Nat.{ℕ, suc, _+_, _-_, _*_, _^_, _≤_}
 use native.Mathlib.Omega.{arith}
 use denote.Ref.{now}
 use lib.ListN.{length}
 use Rattle.paper.specs.Bytes.{Bytes}
-use Rattle.paper.specs.Scan.{pairsFrom}
-use Rattle.paper.specs.Views.{seen, regionAt}
-use Rattle.repair.specs.Runs.{entryPairs}
-use Rattle.repair.proofs.MendingLaw.{fixedTo, none-fixed, fixed-next, all-fixed}
+use Rattle.paper.specs.Mend.{fixAll}
+use Rattle.repair.specs.Runs.{pairsAt, visitsAt}
+use Rattle.repair.specs.Answers.{Room, visitedBy, plus, met}
+use Rattle.repair.proofs.MendingLaw.{fixedTo, tallied, none-fixed, none-tallied, fixed-next, tally-next, all-fixed, tally-all}
 use Rattle.repair.proofs.mending.mend_words.Statement.{statement}
 use Rattle.repair.proofs.mending.mend_words.Tie as tie
 
 abbrev Inv-loop : tie.InvT-loop
-Inv-loop bytes₀ header n i₀ bytes i = (i ≤ header .«region_count») × (length bytes ≡ length bytes₀) × (bytes ≡ fixedTo bytes₀ i)
+Inv-loop bytes₀ header n table counts₀ i₀ bytes counts i = (i ≤ header .«region_count») × (length bytes ≡ length bytes₀) × (counts .words ≤ i * 2 ^ 32) × Room 0 counts × (bytes ≡ fixedTo bytes₀ i) × (counts ≡ tallied bytes₀ i)
 
 abbrev μ-loop : tie.MeasureT-loop
-μ-loop bytes₀ header n i₀ bytes i = header .«region_count» - i
+μ-loop bytes₀ header n table counts₀ i₀ bytes counts i = header .«region_count» - i
 
 loop-holds : tie.Need-loop-holds Inv-loop μ-loop
-loop-holds c = (omega arith, refl, sym (none-fixed (now (c .before .args .bytes))))
+loop-holds c =
+    let x = now (c .before .before .before .args .bytes) in
+    (omega arith, refl, omega arith, record { words = omega arith; corrected = omega arith; uncorrectable = omega arith }, sym (none-fixed x), sym (none-tallied x))
 
-fix-words-requires : tie.Need-fix-words-requires Inv-loop μ-loop
-fix-words-requires c κs = let r = c .before .run-of in (r .ensures .data-fits, r .ensures .checks-fit)
+mend-region-requires : tie.Need-mend-region-requires Inv-loop μ-loop
+mend-region-requires c κs =
+    let r = c .before .before .before .loop .inv .3 in
+    (record { words = omega arith; corrected = r .corrected; uncorrectable = r .uncorrectable }, c .before .before .before .before .place-checks .ensures)
 
 loop-again : tie.Need-loop-again Inv-loop μ-loop
 loop-again c =
-    let o = c .before .before .fix-words in
-    let r = c .before .before .before .before .run-of in
-    let l = c .before .before .before .before .before .before .before .loop in
-    let k = c .before .before .before .before .before .before .before .before .slice-known in
-    let s = c .before .before .before .before .before .before .before .before .before in
+    let o = c .before .before .mend-region in
+    let l = c .before .before .before .before .before .before .loop in
+    let k = c .before .before .before .before .before .before .before .before .before .slice-known in
+    let s = c .before .before .before .before .before .before .before .before .before .before in
     let x = now (s .args .bytes) in
+    let y = l .bytes in
     let bs : Bytes x = record { small = λ p. omega (arith, k .given p .fits) } in
-    let n = s .pre .0 in
     let e : suc (l .i) ≡ l .i + 1 = omega arith in (
       omega arith,
       omega (arith, c .before .bytes .given),
-      o .ensures
-          ∙ fixed-next x (s .pre .1) bs (l .i) (l .bytes) (pairsFrom (r .result .words) (r .result .word) (r .result .check)) (l .inv .2)
-          (r .ensures .pairs ∙ ap (λ (m : ℕ). entryPairs (length (l .bytes)) (seen m (l .bytes)) (regionAt m (l .bytes) (l .i))) n) ∙ ap (fixedTo x) e,
+      omega (arith, o .ensures .1 .1 .0),
+      o .ensures .1 .1 .1,
+      o .ensures .0 ∙ ap (λ (m : ℕ). fixAll (pairsAt m y (l .i)) y) (s .pre .0)
+          ∙ fixed-next x (s .pre .1) bs (l .i) y (l .inv .4) ∙ ap (fixedTo x) e,
+      o .ensures .1 .0 ∙ ap (λ (m : ℕ). plus (visitedBy (l .counts) (visitsAt m y (l .i))) (met y (pairsAt m y (l .i)))) (s .pre .0)
+          ∙ tally-next x (s .pre .1) bs (l .i) y (l .counts) (l .inv .4) (l .inv .5) ∙ ap (tallied x) e,
     )
 
 returns : tie.Need-returns Inv-loop μ-loop
 returns c =
     let l = c .before .loop in
-    let s = c .before .before .before in
-    l .inv .2 ∙ all-fixed (now (s .args .bytes)) (l .i) (omega (arith, s .pre .0))
+    let k = c .before .before .before .before .slice-known in
+    let s = c .before .before .before .before .before in
+    let x = now (s .args .bytes) in
+    let bs : Bytes x = record { small = λ p. omega (arith, k .given p .fits) } in
+    (l .inv .4 ∙ all-fixed x (l .i) (omega (arith, s .pre .0)), l .inv .5 ∙ tally-all x (s .pre .1) bs (l .i) (omega (arith, s .pre .0)))
 
 pub mend-words-spec : {M : Type 1} → statement M
 mend-words-spec =
@@ -54,9 +63,9 @@ mend-words-spec =
     (tie.spec
     Inv-loop
     μ-loop
-    loop-holds
     (λ c κs. omega arith)
-    fix-words-requires
+    loop-holds
+    mend-region-requires
     (λ c. omega arith)
     (λ c. omega arith)
     loop-again

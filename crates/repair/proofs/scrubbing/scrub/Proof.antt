@@ -18,7 +18,7 @@ use Rattle.paper.specs.Scrub as paper
 use Rattle.view.specs.declared.header.Header.{Header}
 use Rattle.view.proofs.AnswersLaw.{parsed-fine, parsed-count, parsed-refused}
 use Rattle.repair.specs.Answers.{asState, scrubIn, Room}
-use Rattle.repair.specs.declared.scrubbing.Counts.{Counts}
+use Rattle.repair.specs.declared.counts.Counts.{Counts}
 use Rattle.repair.proofs.ScrubbingLaw.{region-is, region-same, from-next, from-failed, from-done, scrub-failed, scrub-starts}
 use Rattle.repair.proofs.scrubbing.scrub.Statement.{statement}
 use Rattle.repair.proofs.scrubbing.scrub.Tie as tie
@@ -48,10 +48,10 @@ abbrev record-of : State → Scrubbed
 record-of s = record { image = s .image; report = reported s }
 
 abbrev Inv-loop : tie.InvT-loop
-Inv-loop bytes₀ first header₀ written₀ counts₀ i₀ bytes header written counts i = (i ≤ first .«region_count») × (length bytes ≡ length bytes₀) × (counts .words ≤ i * 2 ^ 32) × Room 0 counts × (scrubFrom (first .«region_count» - i) i (asState counts bytes) ≡ paper.scrub bytes₀) × (written ≡ counts .corrected → Checked bytes header)
+Inv-loop bytes₀ first table header₀ written₀ counts₀ i₀ bytes header written counts i = (i ≤ first .«region_count») × (length bytes ≡ length bytes₀) × (counts .words ≤ i * 2 ^ 32) × Room 0 counts × (scrubFrom (first .«region_count» - i) i (asState counts bytes) ≡ paper.scrub bytes₀) × (written ≡ counts .corrected → Checked bytes header)
 
 abbrev μ-loop : tie.MeasureT-loop
-μ-loop bytes₀ first header₀ written₀ counts₀ i₀ bytes header written counts i = first .«region_count» - i
+μ-loop bytes₀ first table header₀ written₀ counts₀ i₀ bytes header written counts i = first .«region_count» - i
 
 returns : tie.Need-returns Inv-loop μ-loop
 returns c =
@@ -62,11 +62,11 @@ returns c =
 
 loop-holds : tie.Need-loop-holds Inv-loop μ-loop
 loop-holds c =
-    let p = c .before .before .before in
+    let p = c .before .before .before .before .before in
     let x = now (p .before .before .before .args .bytes) in
-    let f = parsed-fine x (p .parse .result) (p .parse .ensures) (c .before .first .given .0 .0) (c .before .first .given .1) in
-    let n = parsed-count x (p .parse .result) (p .parse .ensures) (c .before .first .given .0 .0) (c .before .first .given .1) in
-    let z : c .before .first .given .0 .0 .«region_count» - 0 ≡ count x = omega (arith, n) in (
+    let f = parsed-fine x (p .parse .result) (p .parse .ensures) (c .before .before .before .first .given .0 .0) (c .before .before .before .first .given .1) in
+    let n = parsed-count x (p .parse .result) (p .parse .ensures) (c .before .before .before .first .given .0 .0) (c .before .before .before .first .given .1) in
+    let z : c .before .before .before .first .given .0 .0 .«region_count» - 0 ≡ count x = omega (arith, n) in (
       omega arith,
       refl,
       omega arith,
@@ -82,8 +82,8 @@ returns-2 : tie.Need-returns-2 Inv-loop μ-loop
 returns-2 c =
     let p = c .before .before in
     let a = p .before .before .before .before .before .before in
-    let g = a .before .before .before .before .before .before .before .args in
-    let n = a .before .before .first .given .0 .0 .«region_count» in
+    let g = a .before .before .before .before .before .before .before .before .before .args in
+    let n = a .before .before .before .before .first .given .0 .0 .«region_count» in
     let z : suc (n - (a .loop .i + 1)) ≡ n - a .loop .i = omega arith in
     let s = asState (a .loop .counts) (a .loop .bytes) in
     let e : (record { image = a .loop .bytes; report = none }) ≡ paper.scrub (now (g .bytes)) =
@@ -93,18 +93,18 @@ returns-2 c =
 
 scrub-region-requires : tie.Need-scrub-region-requires Inv-loop μ-loop
 scrub-region-requires c κs =
-    let a = c .before .before .before .before .before in
+    let a = c .before .before .before .before .before .before in
     let r = a .loop .inv .3 in
-    record { words = omega arith; corrected = r .corrected; uncorrectable = r .uncorrectable }
+    (record { words = omega arith; corrected = r .corrected; uncorrectable = r .uncorrectable }, a .before .place-checks .ensures)
 
 loop-again : tie.Need-loop-again Inv-loop μ-loop
 loop-again c =
     let o = c .before .before in
-    let j = o .before .before in
+    let j = o .before .before .before in
     let a = j .before .before .before .before in
-    let g = a .before .before .before .before .before .before .before .args in
+    let g = a .before .before .before .before .before .before .before .before .before .args in
     let x = a .loop .bytes in
-    let n = a .before .before .first .given .0 .0 .«region_count» in
+    let n = a .before .before .before .before .first .given .0 .0 .«region_count» in
     let ready : Checked x (j .if2 .header) × (j .if2 .written ≡ a .loop .counts .corrected) =
     ⊎-elim
     (λ w. (
@@ -117,7 +117,7 @@ loop-again c =
     (λ w. (subst (Checked x) (sym (w .1)) (a .loop .inv .5 (sym (w .0 .left))), w .2 ∙ sym (w .0 .left)))
     (j .if2 .came) in
     let t = o .scrub-region .result in
-    let y = o .scrub-region .last .0 in
+    let y = o .scrub-region .last .1 .0 in
     let e = o .scrub-region .ensures .1 in (
       omega arith,
       omega (arith, c .before .bytes .given),
@@ -133,8 +133,8 @@ same-length-3 c = c .before .before .before .loop .inv .1
 returns-3 : tie.Need-returns-3 Inv-loop μ-loop
 returns-3 c =
     let a = c .before .before .before in
-    let g = a .before .before .before .before .before .before .before .args in
-    let n = a .before .before .first .given .0 .0 .«region_count» in
+    let g = a .before .before .before .before .before .before .before .before .before .args in
+    let n = a .before .before .before .before .first .given .0 .0 .«region_count» in
     let z : 0 ≡ n - a .loop .i = omega arith in
     let s = asState (a .loop .counts) (a .loop .bytes) in
     let e : record-of s ≡ paper.scrub (now (g .bytes)) =
@@ -152,6 +152,7 @@ scrub-spec =
     (λ c. search needs)
     (λ c. search needs)
     returns
+    (λ c κs. search needs)
     loop-holds
     (λ c κs. search needs)
     (λ c. search needs)

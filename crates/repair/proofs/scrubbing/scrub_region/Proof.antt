@@ -2,14 +2,13 @@
 use mathlib.Core.Path.{_≡_, sym, ap, ap₂, _∙_, subst}
 use mathlib.Core.Bool.{Bool, _||_}
 use mathlib.Core.List.{List}
-use Prim.Native.Nat.{_-_}
 use native.Mathlib.Omega.{arith}
 use borrow.Author.Needs.{needs}
 use denote.Ref.{now}
 use Rattle.paper.specs.Scan.{Pair, pairsFrom}
 use Rattle.paper.specs.Scrub.{scrubWords}
 use Rattle.repair.specs.Answers.{asState, Room}
-use Rattle.repair.specs.declared.scrubbing.Counts.{Counts}
+use Rattle.repair.specs.declared.counts.Counts.{Counts}
 use Rattle.repair.proofs.ScrubbingLaw.{room-visit, region-run}
 use Rattle.repair.proofs.scrubbing.scrub_region.Statement.{statement}
 use Rattle.repair.proofs.scrubbing.scrub_region.Tie as tie
@@ -20,7 +19,8 @@ scrub-words-requires c κs =
     let s = c .before .before .before .before .before in (
       r .ensures .data-fits,
       r .ensures .checks-fit,
-      subst (Room (r .result .words)) (sym (c .before .visit .ensures)) (room-visit (s .args .counts) (r .result .words) _ (s .pre) (r .ensures .few)),
+      subst (Room (r .result .words)) (sym (c .before .visit .ensures)) (room-visit (s .args .counts) (r .result .words) _ (s .pre .0) (r .ensures .few)),
+      s .pre .1,
     )
 
 returns : tie.Need-returns

@@ -8,7 +8,7 @@ use Rattle.paper.specs.Scrub.{storedWord, scrubWords}
 use Rattle.ecc.specs.Answers.{asOutcome}
 use Rattle.repair.specs.Answers.{asState, Room}
 use Rattle.repair.proofs.ScrubbingLaw.{one-word, stored-length, room-next, words-next, words-done, counted-words}
-use Rattle.repair.specs.declared.scrubbing.Counts.{Counts}
+use Rattle.repair.specs.declared.counts.Counts.{Counts}
 use Rattle.repair.proofs.scrubbing.scrub_words.Statement.{statement}
 use Rattle.repair.proofs.scrubbing.scrub_words.Tie as tie
 
@@ -16,10 +16,10 @@ abbrev record-pair : ℕ → ℕ → Pair
 record-pair w k = record { word = w; check = k }
 
 abbrev Inv-loop : tie.InvT-loop
-Inv-loop bytes₀ word check n total₀ k₀ bytes total k = (k ≤ n) × (length bytes ≡ length bytes₀) × Room (n - k) total × (scrubWords (pairsFrom (n - k) (word + k) (check + k)) (asState total bytes) ≡ scrubWords (pairsFrom n word check) (asState total₀ bytes₀)) × (total .words ≡ total₀ .words + k)
+Inv-loop table bytes₀ word check n total₀ k₀ bytes total k = (k ≤ n) × (length bytes ≡ length bytes₀) × Room (n - k) total × (scrubWords (pairsFrom (n - k) (word + k) (check + k)) (asState total bytes) ≡ scrubWords (pairsFrom n word check) (asState total₀ bytes₀)) × (total .words ≡ total₀ .words + k)
 
 abbrev μ-loop : tie.MeasureT-loop
-μ-loop bytes₀ word check n total₀ k₀ bytes total k = n - k
+μ-loop table bytes₀ word check n total₀ k₀ bytes total k = n - k
 
 loop-holds : tie.Need-loop-holds Inv-loop μ-loop
 loop-holds c =
@@ -28,6 +28,9 @@ loop-holds c =
     let w : g .word + 0 ≡ g .word = omega arith in
     let k : g .check + 0 ≡ g .check = omega arith in
     (omega arith, refl, rw n (c .before .pre .2), rw (n, w, k), omega arith)
+
+scrub-word-requires : tie.Need-scrub-word-requires Inv-loop μ-loop
+scrub-word-requires c κs = (omega arith, omega arith, c .before .before .before .before .pre .3)
 
 count-word-requires : tie.Need-count-word-requires Inv-loop μ-loop
 count-word-requires c κs =
@@ -40,15 +43,15 @@ loop-again c =
     let a = v .before .before .before in
     let g = a .before .before .args in
     let p = record-pair (g .word + a .loop .k) (g .check + a .loop .k) in
-    let e : v .scrub-word .last .0 ≡ storedWord (classAt (a .loop .bytes) p) p (a .loop .bytes) = v .scrub-word .ensures .1 in
+    let e : v .scrub-word .last .1 .0 ≡ storedWord (classAt (a .loop .bytes) p) p (a .loop .bytes) = v .scrub-word .ensures .1 in
     let n : g .n - a .loop .k ≡ suc (g .n - (a .loop .k + 1)) = omega arith in (
       omega arith,
       ap length e ∙ stored-length (classAt (a .loop .bytes) p) p (a .loop .bytes) ∙ a .loop .inv .1,
       subst (Room (g .n - (a .loop .k + 1))) (sym (c .count-word .ensures))
           (room-next (g .n - (a .loop .k + 1)) (a .loop .total) (asOutcome (v .scrub-word .result)) (subst (λ (m : ℕ). Room m (a .loop .total)) n (a .loop .inv .2))),
       ap (scrubWords (pairsFrom (g .n - (a .loop .k + 1)) (g .word + (a .loop .k + 1)) (g .check + (a .loop .k + 1))))
-          (ap (λ (z : Counts). asState z (v .scrub-word .last .0)) (c .count-word .ensures)
-          ∙ one-word (a .loop .total) (a .loop .bytes) (v .scrub-word .last .0) p (asOutcome (v .scrub-word .result)) (v .scrub-word .ensures .0) e)
+          (ap (λ (z : Counts). asState z (v .scrub-word .last .1 .0)) (c .count-word .ensures)
+          ∙ one-word (a .loop .total) (a .loop .bytes) (v .scrub-word .last .1 .0) p (asOutcome (v .scrub-word .result)) (v .scrub-word .ensures .0) e)
           ∙ sym (words-next (g .n) (g .word) (g .check) (a .loop .k) (asState (a .loop .total) (a .loop .bytes)) (omega arith)) ∙ a .loop .inv .3,
       ap (λ (z : Counts). z .words) (c .count-word .ensures) ∙ counted-words (a .loop .total) (asOutcome (v .scrub-word .result)) ∙ omega arith,
     )
@@ -71,7 +74,7 @@ scrub-words-spec =
     loop-holds
     (λ c. omega arith)
     (λ c. omega arith)
-    (λ c κs. omega arith)
+    scrub-word-requires
     count-word-requires
     (λ c. omega arith)
     (λ c. omega arith)

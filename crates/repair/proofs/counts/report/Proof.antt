@@ -1,8 +1,7 @@
--- `repair::scrubbing::report` meets its contract. Assumes nothing.
-use Prim.Native.Nat.{_-_}
+-- `repair::counts::report` meets its contract. Assumes nothing.
 use borrow.Author.Tests.{not-true, not-false}
-use Rattle.repair.proofs.scrubbing.report.Statement.{statement}
-use Rattle.repair.proofs.scrubbing.report.Tie as tie
+use Rattle.repair.proofs.counts.report.Statement.{statement}
+use Rattle.repair.proofs.counts.report.Tie as tie
 
 returns : tie.Need-returns
 returns c = let t = c .before .before .args .counts in rw (not-true (t .any) (c .if1 .taken))

@@ -1,12 +1,11 @@
--- `repair::scrubbing::count_word` meets its contract. Assumes nothing.
+-- `repair::counts::count_word` meets its contract. Assumes nothing.
 use mathlib.Core.Path.{sym, ap}
-use Prim.Native.Nat.{_-_}
 use borrow.Author.Needs.{needs}
 use Rattle.ecc.specs.Answers.{asOutcome}
 use Rattle.ecc.specs.declared.WordStatus.{WordStatus}
 use Rattle.repair.specs.Answers.{counted}
-use Rattle.repair.proofs.scrubbing.count_word.Statement.{statement}
-use Rattle.repair.proofs.scrubbing.count_word.Tie as tie
+use Rattle.repair.proofs.counts.count_word.Statement.{statement}
+use Rattle.repair.proofs.counts.count_word.Tie as tie
 
 returns : tie.Need-returns
 returns c = ap (λ (s : WordStatus). counted (c .before .before .before .args .counts) (asOutcome s)) (sym (c .before .enum-told .given .1))

@@ -1,0 +1,76 @@
+-- What mend counts as it meets the words: where they lie apart, what a scan counts. Assumes nothing.
+use mathlib.Core.Path.{_≡_, refl, sym, ap, _∙_, subst}
+use mathlib.Core.Bool.{Bool}
+use mathlib.Core.List.{List, [], _∷_, _++_}
+use Prim.Native.Nat.{ℕ, suc, _+_, _-_, _≤_, _<_}
+use native.Mathlib.Nat.{zero-add, add-assoc}
+use native.Mathlib.Omega.{arith}
+use lib.ListN.{length, length-append}
+use Rattle.paper.specs.Bytes.{at, wordAt, Bytes}
+use Rattle.paper.specs.Parity.{Class, clean, flipped, beyond, decode, Outcome, outcomeAs, outcome}
+use Rattle.paper.specs.Scan.{Pair, pairsFrom, isCorrected, isLost, total, classAt, classesAt}
+use Rattle.paper.specs.Mend.{fixAt, fixAll}
+use Rattle.laws.proofs.PairLaw.{classes-ext}
+use Rattle.laws.proofs.Fold.{Inside, AllApart, nil, cons, fix-bytes, fix-length, fix-free}
+use Rattle.repair.specs.declared.counts.Counts.{Counts}
+use Rattle.repair.specs.Answers.{counted, plus, tally, met}
+
+same-counts : {a b c a′ b′ c′ : ℕ} (v : Bool) → a ≡ a′ → b ≡ b′ → c ≡ c′
+    → _≡_ {A = Counts} (record { any = v; words = a; corrected = b; uncorrectable = c }) (record { any = v; words = a′; corrected = b′; uncorrectable = c′ })
+same-counts v e f g = cc
+
+-- ---- one word, and none
+
+count-next : (t : Counts) (k : Class) (w : ℕ) (ks : List Class) → plus (counted t (outcomeAs k w)) ks ≡ plus t (k ∷ ks)
+unfolding total
+count-next t clean w ks = same-counts (t .any) (omega arith) (omega arith) (omega arith)
+count-next t (flipped i) w ks = same-counts (t .any) (omega arith) (omega arith) (omega arith)
+count-next t beyond w ks = same-counts (t .any) (omega arith) (omega arith) (omega arith)
+
+count-none : (t : Counts) → plus t [] ≡ t
+unfolding total
+count-none t = same-counts (t .any) (omega arith) (omega arith) (omega arith)
+
+-- ---- a run of words
+
+module _ (n word check k : ℕ) (t : Counts) (x : List ℕ) where
+  pub met-next : (y : List ℕ) (o : Outcome) → k < n → o ≡ outcome (wordAt x (word + k)) (at x (check + k)) → y ≡ fixAt (record { word = word + k; check = check + k }) x
+      → plus (counted t o) (met y (pairsFrom (n - (k + 1)) (word + (k + 1)) (check + (k + 1)))) ≡ plus t (met x (pairsFrom (n - k) (word + k) (check + k)))
+  unfolding met pairsFrom outcome classAt
+  met-next y o h e f =
+      let m : n - k ≡ suc (n - (k + 1)) = omega arith in
+      let a : suc (word + k) ≡ word + (k + 1) = omega arith in
+      let b : suc (check + k) ≡ check + (k + 1) = omega arith in
+      rw (m, a, b, e, f)
+      (count-next t (decode (wordAt x (word + k)) (at x (check + k))) (wordAt x (word + k))
+      (met (fixAt (record { word = word + k; check = check + k }) x) (pairsFrom (n - (k + 1)) (word + (k + 1)) (check + (k + 1)))))
+
+  pub met-done : n ≤ k → plus t (met x (pairsFrom (n - k) (word + k) (check + k))) ≡ t
+  unfolding met pairsFrom
+  met-done h = let e : n - k ≡ 0 = omega arith in rw e (count-none t)
+
+-- ---- run after run
+
+pub met-append : (x : List ℕ) (ps qs : List Pair) → met x (ps ++ qs) ≡ met x ps ++ met (fixAll ps x) qs
+unfolding met fixAll
+met-append x [] qs = refl
+met-append x (p ∷ ps) qs = ap (λ (ks : List Class). classAt x p ∷ ks) (met-append (fixAt p x) ps qs)
+
+total-append : (f : Class → ℕ) (ks js : List Class) → total f (ks ++ js) ≡ total f ks + total f js
+unfolding total
+total-append f [] js = sym (zero-add (total f js))
+total-append f (k ∷ ks) js = ap (λ (n : ℕ). f k + n) (total-append f ks js) ∙ sym (add-assoc (f k) (total f ks) (total f js))
+
+pub tally-append : (v : Bool) (ks js : List Class) → plus (tally v ks) js ≡ tally v (ks ++ js)
+tally-append v ks js =
+    same-counts v (sym (length-append ks js)) (sym (total-append isCorrected ks js)) (sym (total-append isLost ks js))
+
+-- words laid apart are met as they stood
+pub met-apart : (len : ℕ) (x : List ℕ) {ps : List Pair} → Bytes x → length x ≡ len → AllApart len ps → met x ps ≡ classesAt x ps
+unfolding met classesAt
+met-apart len x b e nil = refl
+met-apart len x b e (cons {p = p} {ps = ps} s f r) =
+    let t : Inside (length x) p = subst (λ (n : ℕ). Inside n p) (sym e) s in
+    ap (λ (ks : List Class). classAt x p ∷ ks)
+    (met-apart len (fixAt p x) (fix-bytes p x b t) (fix-length p x b t ∙ e) r
+    ∙ classes-ext x (fixAt p x) ps (λ q c m. fix-free p x b t q c (f q c m)))
