@@ -13,9 +13,9 @@ use prog.Model.{Model}
 use prog.Wp.{Heap, WpFn}
 use ghost.Atoms.{Atoms, sem}
 use contract.Lifetimes.{Lfts, Shares, toks}
-use contract.Monad.{fact, factI}
+use contract.Monad.{fact}
 use contract.Running.{GhostRules, Running, givenOf}
-use types.Kit.{Given, Item, ‵, raw, _⊛_, mean, ⋆, _$_, _∵_, !, qed, by, move, drop, use0, use1, use2, split, fsplit, fjoin, done}
+use types.Kit.{Given, Item, ‵, raw, _⊛_, mean, ⋆, _$_, _∵_, !, qed, by, move, use1, split, fsplit, fjoin, done}
 use types.Part.{agg}
 use types.Run.{look, init, forget, stop, from, load, and-then, no-more, assigns, land, returns, enter, alloc1, alloc0, params1, pass1, pass0, free1, free0}
 use denote.RattleType.{RattleType, owns}
@@ -46,7 +46,7 @@ use Rattle.held.proofs.table.RecordTable.from_bytes.Statement as stated
 use Rattle.held.proofs.table.RecordTable.from_bytes.Code as code
 use Rattle.held.proofs.Asks.{asks-at}
 use Rattle.held.proofs.Parts.{bytesTy, bytesVal, number, slice}
-use Rattle.held.proofs.Shown.{shown, leaves, Post, C, Λ}
+use Rattle.held.proofs.Shown.{shown, leaves-with, Post, C, Λ}
 
 module _ {M : Type 1} (𝓤 : URA M) (H : Heap 𝓤) (𝓜 : Model 𝓤 H) (𝓖 : GhostRules 𝓤 H) (𝓡 : Running 𝓤 H 𝓜) (κs : Lfts 1) (qs : Shares 1) (s : RefT (List ℕ)) (k : ℕ) where
   abbrev A : Atoms 𝓤
@@ -84,8 +84,8 @@ module _ {M : Type 1} (𝓤 : URA M) (H : Heap 𝓤) (𝓜 : Model 𝓤 H) (𝓖
   exits r n e f =
       qed W (‵ (usize .own n (vint w64 n ∷ [])) ∷ Tok ∷ ‵ (Bytes .own r (bytesVal r ∷ [])) ∷ []) ∵ nothing ! $ move ! (1 ∷ 0 ∷ []) $ fjoin ! $ move ! (2 ∷ 0 ∷ []) $ fjoin ! $
       use1 W (‵ (T.the-row (namedLft 1 0 tt κs) .own (record { bytes = r; stride = n }) (T′.lowered (record { bytes = r; stride = n }) ∷ []))) (own-shut 𝓤 H A W (T.the-type (namedLft 1 0 tt κs)) (T′.the-laws (namedLft 1 0 tt κs)) (r, (n, tt))) $
-      use0 W (raw (fact 𝓤 ((now r ≡ table? (now s) []) × (n ≡ table? k 0)))) (factI 𝓤 _ (emp 𝓤) (e, f)) $ move ! (1 ∷ 2 ∷ 0 ∷ []) $
-      by ! (leaves 𝓤 H A W me.ended (me.clauses 𝓤 H A (𝓜 .mem) (𝓡 .run)) ((κs, qs, tt, (s, (k, tt)), (bytesVal s ∷ [], (vint w64 k ∷ [], tt))), tt) (tt, (tt, tt)) (tt, (tt, tt)) (record { bytes = r; stride = n }) (T′.lowered (record { bytes = r; stride = n })))
+      by ! (leaves-with 𝓤 H A W me.ended (me.clauses 𝓤 H A (𝓜 .mem) (𝓡 .run)) ((κs, qs, tt, (s, (k, tt)), (bytesVal s ∷ [], (vint w64 k ∷ [], tt))), tt) (tt, (tt, tt)) (tt, (tt, tt)) (record { bytes = r; stride = n }) (T′.lowered (record { bytes = r; stride = n }))
+      ((now r ≡ table? (now s) []) × (n ≡ table? k 0)) (e, f) (id⊢ 𝓤 _))
 
   walk : Is Bytes s (bytesVal s ∷ []) → Is usize k (vint w64 k ∷ []) → ent 𝓤 Pre (WpFn 𝓤 H (C 𝓤 H 𝓜 𝓖 𝓡 code.env) (Λ 𝓤 H 𝓜 𝓖 𝓡 code.env) code.function (bytesVal s ∷ vint w64 k ∷ []) K)
   walk is ik =
