@@ -178,7 +178,7 @@ impl Pair {
 
 /// Data and a plane of these lengths, of which each pair has no to three flipped bits, most have none
 /// or one; what has no counterpart is random.
-fn damaged(random: &mut Random, data_len: usize, plane_len: usize) -> (Vec<u8>, Vec<u8>) {
+pub fn damaged(random: &mut Random, data_len: usize, plane_len: usize) -> (Vec<u8>, Vec<u8>) {
     let (mut data, mut plane) = (random.bytes(data_len), random.bytes(plane_len));
     for (word, check) in data.chunks_exact_mut(8).zip(&mut plane) {
         let mut pair = Pair::sound(random.next());
@@ -193,7 +193,7 @@ fn damaged(random: &mut Random, data_len: usize, plane_len: usize) -> (Vec<u8>, 
 }
 
 /// The two numbers that stand for a decoded word in C.
-fn decoded(status: WordStatus) -> [u64; 2] {
+pub fn decoded(status: WordStatus) -> [u64; 2] {
     match status {
         WordStatus::Clean(word) => [0, word],
         WordStatus::Corrected(word) => [1, word],

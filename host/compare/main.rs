@@ -10,7 +10,9 @@ mod crc;
 mod ecc;
 mod ffi;
 mod ffi_face;
+mod ffi_held;
 mod ffi_reader;
+mod held;
 mod images;
 mod inputs;
 mod layout;
@@ -50,6 +52,7 @@ fn main() -> ExitCode {
     ecc::compare(&mut run);
     view::compare(&mut run);
     tables::compare(&mut run);
+    held::compare(&mut run);
     scan::compare(&mut run);
     scrub::compare(&mut run);
     mend::compare(&mut run);

@@ -16,7 +16,7 @@ pub fn compare(run: &mut Run) {
 }
 
 /// Strides around and far from those that are taken.
-fn strides() -> Vec<usize> {
+pub fn strides() -> Vec<usize> {
     let mut all: Vec<usize> = (0..=33).chain([40, 48, 64, 72, 128, 400, 408]).collect();
     all.extend(edges(1).into_iter().map(|n| n as usize));
     all.extend((3..64).map(|bit| (1usize << bit) - 8));
@@ -110,7 +110,7 @@ fn compare_tables(run: &mut Run) {
     });
 }
 
-fn indices(count: usize) -> impl Iterator<Item = usize> {
+pub fn indices(count: usize) -> impl Iterator<Item = usize> {
     (0..count + 3).chain(edges(1).into_iter().map(|n| n as usize))
 }
 

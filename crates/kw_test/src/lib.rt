@@ -9,6 +9,7 @@ ghost use Rattle.paper.specs.Layout.{wordsFor, headerBytes};
 ghost use Rattle.paper.specs.Layout as paper;
 ghost use Rattle.paper.specs.Parity.{planeKind, checkOf, outcome};
 ghost use Rattle.paper.specs.Scan.{sliceWord, sliceScan};
+ghost use Rattle.ecc.specs.Answers.{asWord};
 ghost use Rattle.kw_test.specs.Numbers.{asNumbers, regionNumbers, outcomeNumbers, wordNumbers, reportNumbers, answersNumbers};
 use ecc::EccReport;
 use ecc::PlaneWord;
@@ -23,6 +24,7 @@ use scalar::U64At;
 mod parts;
 mod reader;
 mod scans;
+mod values;
 
 // {1, the number}, or {0, 0} for nothing.
 #[no_mangle]
@@ -181,19 +183,25 @@ pub extern "C" fn kwt_decode_word(data: u64, check: u8, answer: &mut [u64; 2])
     }
 }
 
+fn word_numbers(word: PlaneWord) -> [u64; 3]
+    ensures { λ r. ⌜ r ≡ wordNumbers (asWord word) ⌝ }
+{
+    match word {
+        PlaneWord::Word(s) => match s {
+            WordStatus::Clean(w) => [1, 0, w],
+            WordStatus::Corrected(w) => [1, 1, w],
+            WordStatus::Uncorrectable => [1, 2, 0],
+        },
+        PlaneWord::Nothing => [0, 0, 0],
+    }
+}
+
 // {1, the two numbers of a decoded word}, or {0, 0, 0} for nothing.
 #[no_mangle]
 pub extern "C" fn kwt_plane_word(parity: &[u8], data: &[u8], index: usize, answer: &mut [u64; 3])
     ensures { λ _. ⌜ now (answer .exit) ≡ wordNumbers (sliceWord (now («data» .entry)) (now (parity .entry)) index) ⌝ }
 {
-    match ecc::plane_word(parity, data, index) {
-        PlaneWord::Word(s) => match s {
-            WordStatus::Clean(w) => *answer = [1, 0, w],
-            WordStatus::Corrected(w) => *answer = [1, 1, w],
-            WordStatus::Uncorrectable => *answer = [1, 2, 0],
-        },
-        PlaneWord::Nothing => *answer = [0, 0, 0],
-    }
+    *answer = word_numbers(ecc::plane_word(parity, data, index));
 }
 
 // {words, corrected, uncorrectable}

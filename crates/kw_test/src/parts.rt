@@ -20,7 +20,7 @@ fn span_numbers(span: PartSpan) -> [u64; 3]
     }
 }
 
-fn part_numbers(part: &[u8]) -> [u64; 2]
+pub(crate) fn part_numbers(part: &[u8]) -> [u64; 2]
     ensures { λ r. ⌜ r ≡ partNumbers (now (part .entry)) ⌝ }
 {
     [part.len() as u64, crc::crc32(part) as u64]

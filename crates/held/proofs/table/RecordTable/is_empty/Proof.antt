@@ -1,0 +1,47 @@
+-- `RecordTable::is_empty` is thin over `no_records`. Assumes nothing.
+use mathlib.Core.Path.{refl}
+use mathlib.Core.List.{[], _∷_}
+use mir.Syntax.{named, w64, tyBool}
+use mir.Val.{vint}
+use base.Logic.{id⊢}
+use contract.Running.{givenOf}
+use denote.Plain.{bool-lawful}
+use denote.Signature.{namedLft}
+use denote.Struct.Laws as LL
+use Rattle.held.proofs.table.RecordTable as T
+use Rattle.held.proofs.table.RecordTable.Laws as T′
+use Rattle.held.proofs.table.no_records as callee
+use Rattle.held.proofs.table.no_records.Symbol as callee-def
+use Rattle.held.proofs.table.no_records.Symbol.{name as #callee}
+use Rattle.held.proofs.table.no_records.Met as callee-thm
+use Rattle.held.proofs.table.RecordTable.is_empty.Key.{name as #me}
+use Rattle.held.proofs.table.RecordTable.is_empty as me
+use Rattle.held.proofs.table.RecordTable.is_empty.Statement as stated
+use Rattle.held.proofs.table.RecordTable.is_empty.Code as code
+use Rattle.held.proofs.Asks.{Typed}
+use Rattle.held.proofs.Parts.{bytesVal, table, table-bytes, table-stride, table-owns}
+use Rattle.held.proofs.Shown.{shown}
+use Rattle.held.proofs.Thin.{thin-0-2}
+
+pub is-empty-spec : {M : Type 1} → stated.statement M
+unfolding code.routine
+is-empty-spec 𝓤 H 𝓜 𝓖 𝓡 =
+    shown 𝓤 H 𝓜 𝓖 𝓡 code.env me.ended (me.clauses 𝓤 H (𝓖 .A) (𝓜 .mem) (𝓡 .run)) #me code.function (code.unfolded 𝓤 H 𝓜 𝓡) ((λ κs x f. refl), tt) (λ κs. (LL.vals (T.the-type (namedLft 1 0 tt κs)) (T′.the-laws (namedLft 1 0 tt κs)), tt)) (λ κs. (LL.tells (T.the-type (namedLft 1 0 tt κs)) (T′.the-laws (namedLft 1 0 tt κs)), tt))
+    (λ κs qs bounds a g are.
+    let typed : Typed (T′.mir (named 0)) (T′.lowered (a .0)) = LL.lawful (T.the-type (namedLft 1 0 tt κs)) (T′.the-laws (namedLft 1 0 tt κs)) 𝓤 H (𝓖 .A) (givenOf 𝓤 H 𝓜 𝓖) .typed (a .0) _ (are .0) .0 in
+    thin-0-2 𝓤 H 𝓜 𝓖 𝓡 code.env (me.signature .result) (me.signature .params) (me.ended .kept) (me.clauses 𝓤 H (𝓖 .A) (𝓜 .mem) (𝓡 .run)) (callee.signature .params) (callee.ended .kept) (callee.clauses 𝓤 H (𝓖 .A) (𝓜 .mem) (𝓡 .run))
+    #callee callee-def.routine code.calls-held·table·no-records (callee-thm.met 𝓤 H 𝓜 𝓖 𝓡) κs qs
+    (record {
+      a = a;
+      vs = (T′.lowered (a .0) ∷ [], tt);
+      g = g;
+      ws = (tt, tt);
+      fit = (tt, tt);
+      a′ = (a .0 .bytes, (a .0 .stride, tt));
+      vs′ = (bytesVal (a .0 .bytes) ∷ [], (vint w64 (a .0 .stride) ∷ [], tt));
+      g′ = tt;
+      opens = table-owns 𝓤 H 𝓜 𝓖 (a .0) (namedLft 1 0 tt κs) ([]) (a .1) tt;
+      free = id⊢ 𝓤 _;
+      same = λ r ws. id⊢ 𝓤 _;
+    })
+    tyBool (λ r u is. bool-lawful 𝓤 H (𝓖 .A) (givenOf 𝓤 H 𝓜 𝓖) .typed r _ is .0) (table 𝓤 H 𝓜 𝓖 (a .0) typed) (table-bytes 𝓤 H 𝓜 𝓖 (a .0) typed) (table-stride 𝓤 H 𝓜 𝓖 (a .0) typed) refl)

@@ -1,0 +1,32 @@
+-- The answers of the values that hold bytes, as the numbers that are handed to C.
+use mathlib.Core.Bool.{cond}
+use mathlib.Core.List.{List, [], _∷_, _++_}
+use mathlib.Core.Option.{Option}
+use Prim.Native.Nat.{ℕ}
+use lib.Dec.{eqb}
+use lib.ListN.{length}
+use Rattle.bits.specs.Bit.{num}
+use Rattle.paper.specs.Parity.{Outcome}
+use Rattle.paper.specs.Scan.{Report}
+use Rattle.paper.specs.Views.{Range, isTable, recordCount}
+use Rattle.kw_test.specs.Numbers.{wordNumbers, reportNumbers}
+use Rattle.kw_test.specs.Reader.{placeNumbers, partNumbers}
+
+-- the bytes and the stride of the table that is made of x and k
+abbrev pub tableOf : List ℕ → ℕ → List ℕ
+tableOf x k = cond (isTable (length x) k) x []
+
+abbrev pub strideOf : List ℕ → ℕ → ℕ
+strideOf x k = cond (isTable (length x) k) k 0
+
+-- of a table's bytes and stride: how many records, whether none, the stride
+abbrev pub tableNumbers : List ℕ → ℕ → List ℕ
+tableNumbers x k = recordCount (length x) k ∷ num (eqb (recordCount (length x) k) 0) ∷ k ∷ []
+
+-- where a part stands, and the part
+abbrev pub partAnswer : Option Range → List ℕ → List ℕ
+partAnswer p x = placeNumbers p ++ partNumbers x
+
+-- a plane, a word and a scan
+abbrev pub planeAnswer : List ℕ → Option Outcome → Report → List ℕ
+planeAnswer x o r = partNumbers x ++ (wordNumbers o ++ reportNumbers r)
