@@ -38,6 +38,7 @@ fn fill_place(table: &mut [u8; 2048], columns: &[u8; 72], k: usize)
 pub fn place_checks(table: &mut [u8; 2048])
     ensures { λ _. ⌜ now (table .exit) ≡ placeChecks ⌝ }
 {
+    // All of it is written below; this says how long it is.
     *table = [0u8; 2048];
     let columns = COLUMNS;
     let mut k: usize = 0;
