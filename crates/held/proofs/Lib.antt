@@ -1,5 +1,6 @@
 pub mod Asks
 pub mod Gives
+pub mod Methods
 pub mod Parts
 pub mod Shown
 pub mod Thin

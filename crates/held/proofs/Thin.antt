@@ -23,7 +23,7 @@ use types.Kit.{Given, Item, ‵, raw, _⊛_, mean, ⋆, nth, _$_, _∵_, !, Go, 
 use types.Part as cell
 use types.Part.{whole, sub, look-in}
 use types.Run.{Opd, look, init, forget, stop, fld, from, load, of-opd, and-then, no-more, assigns, land, returns, enter, alloc1, alloc0, params1, pass1, pass0, free1, free0}
-use denote.RattleType.{RattleType, Denots, Valss, flat, owns}
+use denote.RattleType.{Denots, Valss, flat, owns}
 use denote.Laws.{Is}
 use denote.Signature.{Slot, typeAt, typesAt}
 use denote.Triple.Statement.{Triple}

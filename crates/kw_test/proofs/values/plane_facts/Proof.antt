@@ -31,7 +31,6 @@ use denote.Triple.Walked.{walkOf}
 use Rattle.paper.specs.Scan.{sliceWord, sliceScan}
 use Rattle.ecc.specs.Answers.{asWord, asReport}
 use Rattle.kw_test.specs.Held.{planeAnswer}
-use Rattle.held.specs.declared.plane.EccPlane.{EccPlane}
 use Rattle.held.proofs.plane.EccPlane as T
 use Rattle.held.proofs.plane.EccPlane.Laws as T′
 use Rattle.ecc.proofs.PlaneWord as Word

@@ -33,7 +33,6 @@ use Rattle.paper.specs.Views.{partIn, poolRange}
 use Rattle.tables.specs.Answers.{asPlace}
 use Rattle.kw_test.specs.Reader.{partNumbers}
 use Rattle.kw_test.specs.Held.{partAnswer}
-use Rattle.held.specs.declared.pool.Pool.{Pool}
 use Rattle.held.proofs.pool.Pool as T
 use Rattle.held.proofs.pool.Pool.Laws as T′
 use Rattle.tables.proofs.Place as Place

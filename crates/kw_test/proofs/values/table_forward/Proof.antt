@@ -30,7 +30,6 @@ use denote.Triple.Entry.{onEntry}
 use denote.Triple.Walked.{walkOf}
 use Rattle.paper.specs.Views.{recordCount, rangeIsForward}
 use Rattle.kw_test.specs.Held.{tableOf, strideOf}
-use Rattle.held.specs.declared.table.RecordTable.{RecordTable}
 use Rattle.held.proofs.table.RecordTable as T
 use Rattle.held.proofs.table.RecordTable.Laws as T′
 use Rattle.kw_test.proofs.Joined.{forward-is}

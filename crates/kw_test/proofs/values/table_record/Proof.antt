@@ -32,7 +32,6 @@ use denote.Triple.Walked.{walkOf}
 use Rattle.paper.specs.Views.{partIn, recordRange}
 use Rattle.tables.specs.Answers.{asPlace}
 use Rattle.kw_test.specs.Held.{tableOf, strideOf, partAnswer}
-use Rattle.held.specs.declared.table.RecordTable.{RecordTable}
 use Rattle.held.proofs.table.RecordTable as T
 use Rattle.held.proofs.table.RecordTable.Laws as T′
 use Rattle.tables.proofs.Place as Place

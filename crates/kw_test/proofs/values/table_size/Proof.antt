@@ -32,7 +32,6 @@ use denote.Triple.Walked.{walkOf}
 use Rattle.bits.specs.Bit.{num}
 use Rattle.paper.specs.Views.{recordCount}
 use Rattle.kw_test.specs.Held.{tableOf, strideOf, tableNumbers}
-use Rattle.held.specs.declared.table.RecordTable.{RecordTable}
 use Rattle.held.proofs.table.RecordTable as T
 use Rattle.held.proofs.table.RecordTable.Laws as T′
 use Rattle.kw_test.proofs.Joined.{size-is}

@@ -4,9 +4,10 @@ use mathlib.Core.List.{[], _∷_}
 use mir.Syntax.{named}
 use base.Logic.{id⊢}
 use contract.Running.{givenOf}
-use denote.Builtin.{u8}
-use denote.Signature.{namedLft}
-use denote.Slice.{ShrSlice, slice-vals, shr-slice-tells}
+use denote.Builtin.{u8, SliceRefOf}
+use denote.Exit.{yes}
+use denote.Signature.{plain, namedLft}
+use denote.Slice.{slice-vals, shr-slice-tells}
 use denote.Struct.Laws as LL
 use Rattle.held.proofs.plane.EccPlane as T
 use Rattle.held.proofs.plane.EccPlane.Laws as T′
@@ -21,7 +22,8 @@ use Rattle.held.proofs.plane.EccPlane.scan as me
 use Rattle.held.proofs.plane.EccPlane.scan.Statement as stated
 use Rattle.held.proofs.plane.EccPlane.scan.Code as code
 use Rattle.held.proofs.Asks.{Typed}
-use Rattle.held.proofs.Parts.{bytesVal, slice, plane, plane-parity, plane-owns}
+use Rattle.held.proofs.Methods.{plane-over}
+use Rattle.held.proofs.Parts.{bytesVal, slice, plane, plane-parity}
 use Rattle.held.proofs.Shown.{shown}
 use Rattle.held.proofs.Thin.{thin-1-1}
 
@@ -33,17 +35,6 @@ scan-spec 𝓤 H 𝓜 𝓖 𝓡 =
     let typed : Typed (T′.mir (named 0)) (T′.lowered (a .0)) = LL.lawful (T.the-type (namedLft 2 0 tt κs)) (T′.the-laws (namedLft 2 0 tt κs)) 𝓤 H (𝓖 .A) (givenOf 𝓤 H 𝓜 𝓖) .typed (a .0) _ (are .0) .0 in
     thin-1-1 𝓤 H 𝓜 𝓖 𝓡 code.env (me.signature .result) (me.signature .params) (me.ended .kept) (me.clauses 𝓤 H (𝓖 .A) (𝓜 .mem) (𝓡 .run)) (callee.signature .params) (callee.ended .kept) (callee.clauses 𝓤 H (𝓖 .A) (𝓜 .mem) (𝓡 .run))
     #callee callee-def.routine code.calls-ecc·plane-scan (callee-thm.met 𝓤 H 𝓜 𝓖 𝓡) κs qs
-    (record {
-      a = a;
-      vs = (T′.lowered (a .0) ∷ [], (bytesVal (a .1 .0) ∷ [], tt));
-      g = g;
-      ws = (tt, (tt, tt));
-      fit = (tt, (tt, tt));
-      a′ = (a .0 .parity, (a .1 .0, tt));
-      vs′ = (bytesVal (a .0 .parity) ∷ [], (bytesVal (a .1 .0) ∷ [], tt));
-      g′ = tt;
-      opens = plane-owns 𝓤 H 𝓜 𝓖 (a .0) (namedLft 2 0 tt κs) (ShrSlice (named 1) (κs .1 .0) u8 ∷ []) (a .1) (bytesVal (a .1 .0) ∷ [], tt);
-      free = id⊢ 𝓤 _;
-      same = λ r ws. id⊢ 𝓤 _;
-    })
+    (plane-over 𝓤 H 𝓜 𝓖 𝓡 code.env (me.signature .result) (SliceRefOf (1 ∷ []) tt (plain (λ κs. u8)) (λ κs. tt) ∷ []) (yes, tt) (me.clauses 𝓤 H (𝓖 .A) (𝓜 .mem) (𝓡 .run)) (callee.clauses 𝓤 H (𝓖 .A) (𝓜 .mem) (𝓡 .run)) κs (a .0) (a .1) (bytesVal (a .1 .0) ∷ [], tt) g (tt, tt) (tt, tt) tt
+    (id⊢ 𝓤 _) (λ r ws. id⊢ 𝓤 _))
     Answer′.mir (λ r u is. LL.lawful Answer.the-type Answer′.the-laws 𝓤 H (𝓖 .A) (givenOf 𝓤 H 𝓜 𝓖) .typed r _ is .0) (plane 𝓤 H 𝓜 𝓖 (a .0) typed) (slice 𝓤 H 𝓜 𝓖 (named 1) (κs .1 .0) (a .1 .0) (are .1 .0)) (plane-parity 𝓤 H 𝓜 𝓖 (a .0) typed) refl)

@@ -7,7 +7,8 @@ use base.Logic.{id⊢}
 use contract.Running.{givenOf}
 use denote.Plain.{uint-vals, uint-tells}
 use denote.Builtin.{u32}
-use denote.Signature.{namedLft}
+use denote.Exit.{yes}
+use denote.Signature.{plain, namedLft}
 use denote.Struct.Laws as LL
 use denote.Enum.Laws as EL
 use Rattle.held.proofs.pool.Pool as T
@@ -23,7 +24,8 @@ use Rattle.held.proofs.pool.Pool.place as me
 use Rattle.held.proofs.pool.Pool.place.Statement as stated
 use Rattle.held.proofs.pool.Pool.place.Code as code
 use Rattle.held.proofs.Asks.{Typed}
-use Rattle.held.proofs.Parts.{bytesVal, number, pool, pool-bytes, pool-owns}
+use Rattle.held.proofs.Methods.{pool-over}
+use Rattle.held.proofs.Parts.{number, pool, pool-bytes}
 use Rattle.held.proofs.Shown.{shown}
 use Rattle.held.proofs.Thin.{thin-2-1}
 
@@ -35,17 +37,6 @@ place-spec 𝓤 H 𝓜 𝓖 𝓡 =
     let typed : Typed (T′.mir (named 0)) (T′.lowered (a .0)) = LL.lawful (T.the-type (namedLft 1 0 tt κs)) (T′.the-laws (namedLft 1 0 tt κs)) 𝓤 H (𝓖 .A) (givenOf 𝓤 H 𝓜 𝓖) .typed (a .0) _ (are .0) .0 in
     thin-2-1 𝓤 H 𝓜 𝓖 𝓡 code.env (me.signature .result) (me.signature .params) (me.ended .kept) (me.clauses 𝓤 H (𝓖 .A) (𝓜 .mem) (𝓡 .run)) (callee.signature .params) (callee.ended .kept) (callee.clauses 𝓤 H (𝓖 .A) (𝓜 .mem) (𝓡 .run))
     #callee callee-def.routine code.calls-held·pool·place-in (callee-thm.met 𝓤 H 𝓜 𝓖 𝓡) κs qs
-    (record {
-      a = a;
-      vs = (T′.lowered (a .0) ∷ [], (vint w32 (a .1 .0) ∷ [], (vint w32 (a .1 .1 .0) ∷ [], tt)));
-      g = g;
-      ws = (tt, (tt, (tt, tt)));
-      fit = (tt, (tt, (tt, tt)));
-      a′ = (a .0 .bytes, (a .1 .0, (a .1 .1 .0, tt)));
-      vs′ = (bytesVal (a .0 .bytes) ∷ [], (vint w32 (a .1 .0) ∷ [], (vint w32 (a .1 .1 .0) ∷ [], tt)));
-      g′ = tt;
-      opens = pool-owns 𝓤 H 𝓜 𝓖 (a .0) (namedLft 1 0 tt κs) (u32 ∷ u32 ∷ []) (a .1) (vint w32 (a .1 .0) ∷ [], (vint w32 (a .1 .1 .0) ∷ [], tt));
-      free = id⊢ 𝓤 _;
-      same = λ r ws. id⊢ 𝓤 _;
-    })
+    (pool-over 𝓤 H 𝓜 𝓖 𝓡 code.env (me.signature .result) (plain (λ κs. u32) ∷ plain (λ κs. u32) ∷ []) (yes, (yes, tt)) (me.clauses 𝓤 H (𝓖 .A) (𝓜 .mem) (𝓡 .run)) (callee.clauses 𝓤 H (𝓖 .A) (𝓜 .mem) (𝓡 .run)) κs (a .0) (a .1) (vint w32 (a .1 .0) ∷ [], (vint w32 (a .1 .1 .0) ∷ [], tt)) g (tt, (tt, tt)) (tt, (tt, tt)) tt
+    (id⊢ 𝓤 _) (λ r ws. id⊢ 𝓤 _))
     Answer′.mir (λ r u is. EL.lawful Answer.the-type Answer′.the-laws 𝓤 H (𝓖 .A) (givenOf 𝓤 H 𝓜 𝓖) tt .typed r _ is .0) (pool 𝓤 H 𝓜 𝓖 (a .0) typed) (number 𝓤 H 𝓜 𝓖 w32 (a .1 .0) (are .1 .0)) (number 𝓤 H 𝓜 𝓖 w32 (a .1 .1 .0) (are .1 .1 .0)) (pool-bytes 𝓤 H 𝓜 𝓖 (a .0) typed) refl)
