@@ -11,14 +11,15 @@ use prog.Model.{Model}
 use prog.Routine as Routine
 use prog.Wp.{Heap, Env}
 use ghost.Atoms.{Atoms}
+use contract.Monad.{fact}
 use contract.Running.{GhostRules, Running, givenOf}
 use contract.Lifetimes.{Lfts, Shares, toks}
-use types.Kit.{Given, Item, Sq, Post, ‵, raw, _⊛_, some, later, lands, runs, _$_, !, Go, move, drop, use0, use1, use2, split, join, pick, await}
+use types.Kit.{Given, Item, Sq, Post, ‵, raw, _⊛_, some, later, mean, lands, runs, _$_, !, Go, move, drop, use0, use1, use2, split, join, pick, await}
 use types.Run.{Opds}
 use denote.RattleType.{RattleType, Denots, Valss, flat, owns}
 use denote.Laws.{Is, Tells, shows}
 use denote.Signature.{Slot, typeAt, typesAt}
-use denote.Steps.{peeks}
+use denote.Steps.{peeks, heard}
 use denote.Triple.Statement.{Contract, Triple}
 use denote.Triple.Call.{calls-from}
 use denote.Triple.End.{Kepts, Fins, outs, lastsOf}
@@ -68,6 +69,12 @@ module _ {M : Type 1} (𝓤 : URA M) (H : Heap 𝓤) (𝓜 : Model 𝓤 H) (𝓖
         calls-from ! (frames 𝓤 H 𝓜 𝓖 𝓡 γ) (raw (Callee .pre to)) us (Callee .post to) (subst (λ (vs′ : List Val). ent 𝓤 (Callee .pre to) (C 𝓤 H 𝓜 𝓖 𝓡 γ f vs′ (Callee .post to))) e (cited 𝓤 H Callee 𝓜 𝓡 γ f routine is met to)) opds (λ u.
         use1 W (later (some (λ (r : R .Denot). (Tok ⊛ ‵ (R .own r (u ∷ []))) ⊛ some (λ (ws : Fins κs ss ks a). ‵ (lastsOf κs ss ks a ws) ⊛ Said r ws)))) (id⊢ 𝓤 _) $ await ! tt $ pick ! (λ r. split ! $ move ! (1 ∷ []) $
         pick ! (λ ws. split ! $ drop ! $ move ! (1 ∷ 0 ∷ []) $ split ! $ move ! (1 ∷ 0 ∷ []) $ peeks ! R (Is R) (shows 𝓤 H A R) r (u ∷ []) (λ it. k r u ws it))))
+
+    -- the same where what it says is a fact
+    pub asks-told : {Γ : List (Item 𝓤)} {E : Env 𝓤 H} {xs : List Operand} {d : Place} {rest : Body} {q : Post 𝓤 H} (φ : R .Denot → Type 0) → ((r : R .Denot) (ws : Fins κs ss ks a) → ent 𝓤 (mean 𝓤 H A (Said r ws)) (fact 𝓤 (φ r)))
+        → (us : List Val) → flat (typesAt ss κs) vs ≡ us → Opds (Go {0}) W (raw (Callee .pre to) ∷ Γ) E xs us → ((r : R .Denot) (u : Val) → Is R r (u ∷ []) → φ r → Sq W (‵ (R .own r (u ∷ [])) ∷ Tok ∷ Γ) (lands (C 𝓤 H 𝓜 𝓖 𝓡 γ) (Λ 𝓤 H 𝓜 𝓖 𝓡 γ) E d u rest q))
+        → Sq W (Tok ∷ ‵ (owns (typesAt ss κs) a vs) ∷ Γ) (runs (C 𝓤 H 𝓜 𝓖 𝓡 γ) (Λ 𝓤 H 𝓜 𝓖 𝓡 γ) E (seq (call f xs d) rest) q)
+    asks-told φ said us e opds k = asks us e opds (λ r u ws it. move ! (2 ∷ []) $ use1 W (raw (fact 𝓤 (φ r))) (said r ws) $ heard ! (φ r) (λ x. k r u it x))
 
     -- the same where the result's type tells its machine value
     pub asks-at : {Γ : List (Item 𝓤)} {E : Env 𝓤 H} {xs : List Operand} {d : Place} {rest : Body} {q : Post 𝓤 H} (v : R .Denot → Val) → Tells R (Is R) (λ r. v r ∷ []) → (us : List Val) → flat (typesAt ss κs) vs ≡ us → Opds (Go {0}) W (raw (Callee .pre to) ∷ Γ) E xs us

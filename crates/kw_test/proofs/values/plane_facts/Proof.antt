@@ -11,7 +11,6 @@ use prog.Model.{Model}
 use prog.Wp.{Heap, WpFn}
 use ghost.Atoms.{Atoms}
 use contract.Lifetimes.{Lfts, Shares, toks}
-use contract.Monad.{fact}
 use contract.Running.{GhostRules, Running, givenOf}
 use types.Kit.{Given, Item, ‵, raw, _⊛_, mean, ⋆, _$_, _∵_, !, qed, by, move, keep, use1, use2, split, join, fsplit, fjoin, done}
 use types.Run.{look, init, forget, stop, from, load, of-opd, and-then, no-more, assigns, land, returns, enter, alloc1, alloc0, params1, pass1, pass0, free1, free0}
@@ -23,7 +22,7 @@ use denote.Array.{Array, array-lawful}
 use denote.Ref.{RefT, NamedLft, now}
 use denote.Signature.{namedLft}
 use denote.Slice.{ShrSlice, slice-vals, shr-slice-tells, shr-slice-lawful, shr-slice-copy}
-use denote.Steps.{owned, heard, nothing}
+use denote.Steps.{owned, nothing}
 use denote.Enum.Laws as EL
 use denote.Struct.Laws as LL
 use denote.Triple.Entry.{onEntry}
@@ -62,7 +61,7 @@ use Rattle.kw_test.proofs.values.plane_facts.Key.{name as #me}
 use Rattle.kw_test.proofs.values.plane_facts as me
 use Rattle.kw_test.proofs.values.plane_facts.Statement as stated
 use Rattle.kw_test.proofs.values.plane_facts.Code as code
-use Rattle.held.proofs.Asks.{asks}
+use Rattle.held.proofs.Asks.{asks-told}
 use Rattle.held.proofs.Parts.{bytesVal, number, slice}
 use Rattle.held.proofs.Shown.{hs, Post, leaves-with, shown, C, Λ}
 
@@ -109,54 +108,37 @@ module _ {M : Type 1} (𝓤 : URA M) (H : Heap 𝓤) (𝓜 : Model 𝓤 H) (𝓖
       qed W (raw Pre ∷ []) ∵ enter ! (C 𝓤 H 𝓜 𝓖 𝓡 code.env) (Λ 𝓤 H 𝓜 𝓖 𝓡 code.env) code.function (bytesVal x ∷ bytesVal y ∷ vint w64 i ∷ []) (Post 𝓤 H A W me.ended (me.clauses 𝓤 H A (𝓜 .mem) (𝓡 .run)) Y) $
       alloc1 ! (λ l₀. alloc1 ! (λ l₁. alloc1 ! (λ l₂. alloc1 ! (λ l₃. alloc1 ! (λ l₄. alloc1 ! (λ l₅. alloc1 ! (λ l₆. alloc1 ! (λ l₇. alloc1 ! (λ l₈. alloc1 ! (λ l₉. alloc1 ! (λ l₁₀. alloc0 ! $ params1 ! $ pass1 ! (init ! 18 refl (slice 𝓤 H 𝓜 𝓖 (named 0) (κs .0) x x-is .typed)) $ pass1 ! (init ! 16 refl (slice 𝓤 H 𝓜 𝓖 (named 1) (κs .1 .0) y y-is .typed)) $ pass1 ! (init ! 14 refl (number 𝓤 H 𝓜 𝓖 w64 i i-is .typed)) $ pass0 ! $
       move ! (22 ∷ []) $ use1 W (Tok ⊛ Lft ⊛ ‵ (ShrSlice (named 0) (κs .0) u8 .own x (bytesVal x ∷ [])) ⊛ ‵ (ShrSlice (named 1) (κs .1 .0) u8 .own y (bytesVal y ∷ []))) enters $ split ! $ move ! (1 ∷ []) $ split ! $ move ! (1 ∷ []) $ split ! $
-      nothing ! $
-      move ! (1 ∷ 0 ∷ []) $ fjoin ! $
-      move ! (3 ∷ 0 ∷ []) $
-      asks 𝓤 H 𝓜 𝓖 𝓡 code.env (made.signature .result) (made.signature .params) (made.ended .kept) (made.clauses 𝓤 H A (𝓜 .mem) (𝓡 .run)) #made made-def.routine code.calls-held·plane·EccPlane·new (made-thm.met 𝓤 H 𝓜 𝓖 𝓡) (κs .0, tt) (qs .0, tt) (x, tt) (bytesVal x ∷ [], tt) tt (id⊢ 𝓤 _)
-      (bytesVal x ∷ []) refl (and-then ! (load ! (from ! (stop !)) (look ! 21 refl)) (no-more !)) (λ d du ws-d d-is.
-      move ! (2 ∷ []) $ use1 W (raw (fact 𝓤 (d .parity ≡ x))) (id⊢ 𝓤 _) $ heard ! (d .parity ≡ x) (λ e.
+      nothing ! $ move ! (1 ∷ 0 ∷ []) $ fjoin ! $ move ! (3 ∷ 0 ∷ []) $
+      asks-told 𝓤 H 𝓜 𝓖 𝓡 code.env (made.signature .result) (made.signature .params) (made.ended .kept) (made.clauses 𝓤 H A (𝓜 .mem) (𝓡 .run)) #made made-def.routine code.calls-held·plane·EccPlane·new (made-thm.met 𝓤 H 𝓜 𝓖 𝓡) (κs .0, tt) (qs .0, tt) (x, tt) (bytesVal x ∷ [], tt) tt (id⊢ 𝓤 _)
+      (λ d. d .parity ≡ x) (λ d ws. id⊢ 𝓤 _) (bytesVal x ∷ []) refl (and-then ! (load ! (from ! (stop !)) (look ! 21 refl)) (no-more !)) (λ d du d-is e.
       land ! (from ! (stop !)) (init ! 16 refl (LL.lawful (T.the-type αᵉ) (T′.the-laws αᵉ) 𝓤 H A W .typed d _ d-is .0)) $
-      assigns ! (of-opd ! (load ! (from ! (stop !)) (look ! 16 refl))) (from ! (stop !)) (init ! 12 refl (LL.lawful (T.the-type αᵉ) (T′.the-laws αᵉ) 𝓤 H A W .typed d _ d-is .0)) $
-      nothing ! $
-      move ! (1 ∷ []) $ use1 W (‵ (T.the-row α .own d (du ∷ [])) ⊛ ‵ (T.the-row α .own d (du ∷ []))) (LL.copy (T.the-type α) (T′.the-copy α) 𝓤 H A W .twice d (du ∷ [])) $ split ! $ move ! (0 ∷ 2 ∷ []) $ fjoin ! $
-      move ! (2 ∷ 0 ∷ []) $
-      asks 𝓤 H 𝓜 𝓖 𝓡 code.env (whole.signature .result) (whole.signature .params) (whole.ended .kept) (whole.clauses 𝓤 H A (𝓜 .mem) (𝓡 .run)) #whole whole-def.routine code.calls-held·plane·EccPlane·bytes (whole-thm.met 𝓤 H 𝓜 𝓖 𝓡) (κs .0, tt) (qs .0, tt) (d, tt) (du ∷ [], tt) tt (id⊢ 𝓤 _)
-      (du ∷ []) refl (and-then ! (load ! (from ! (stop !)) (look ! 12 refl)) (no-more !)) (λ w wu ws-w w-is.
-      move ! (2 ∷ []) $ use1 W (raw (fact 𝓤 (w ≡ d .parity))) (id⊢ 𝓤 _) $ heard ! (w ≡ d .parity) (λ f.
+      assigns ! (of-opd ! (load ! (from ! (stop !)) (look ! 16 refl))) (from ! (stop !)) (init ! 12 refl (LL.lawful (T.the-type αᵉ) (T′.the-laws αᵉ) 𝓤 H A W .typed d _ d-is .0)) $ nothing ! $
+      move ! (1 ∷ []) $ use1 W (‵ (T.the-row α .own d (du ∷ [])) ⊛ ‵ (T.the-row α .own d (du ∷ []))) (LL.copy (T.the-type α) (T′.the-copy α) 𝓤 H A W .twice d (du ∷ [])) $ split ! $ move ! (0 ∷ 2 ∷ []) $ fjoin ! $ move ! (2 ∷ 0 ∷ []) $
+      asks-told 𝓤 H 𝓜 𝓖 𝓡 code.env (whole.signature .result) (whole.signature .params) (whole.ended .kept) (whole.clauses 𝓤 H A (𝓜 .mem) (𝓡 .run)) #whole whole-def.routine code.calls-held·plane·EccPlane·bytes (whole-thm.met 𝓤 H 𝓜 𝓖 𝓡) (κs .0, tt) (qs .0, tt) (d, tt) (du ∷ [], tt) tt (id⊢ 𝓤 _)
+      (λ w. w ≡ d .parity) (λ w ws. id⊢ 𝓤 _) (du ∷ []) refl (and-then ! (load ! (from ! (stop !)) (look ! 12 refl)) (no-more !)) (λ w wu w-is f.
       land ! (from ! (stop !)) (init ! 15 refl (shr-slice-lawful 𝓤 H A W erased (κs .0) u8 .typed w _ w-is .0)) $
-      assigns ! (of-opd ! (load ! (from ! (stop !)) (look ! 17 refl))) (from ! (stop !)) (init ! 9 refl (LL.lawful (T.the-type αᵉ) (T′.the-laws αᵉ) 𝓤 H A W .typed d _ d-is .0)) $
-      nothing ! $
+      assigns ! (of-opd ! (load ! (from ! (stop !)) (look ! 17 refl))) (from ! (stop !)) (init ! 9 refl (LL.lawful (T.the-type αᵉ) (T′.the-laws αᵉ) 𝓤 H A W .typed d _ d-is .0)) $ nothing ! $
       owned ! usize (Is usize) (uint-makes 𝓤 H A W w64) i _ i-is $ fjoin ! $
       move ! (4 ∷ []) $ use1 W (‵ (ShrSlice (named 1) (κs .1 .0) u8 .own y (bytesVal y ∷ [])) ⊛ ‵ (ShrSlice (named 1) (κs .1 .0) u8 .own y (bytesVal y ∷ []))) (shr-slice-copy 𝓤 H A W (named 1) (κs .1 .0) u8 .twice y (bytesVal y ∷ [])) $ split ! $ move ! (0 ∷ 2 ∷ []) $ fjoin ! $
       move ! (4 ∷ []) $ use1 W (‵ (T.the-row α .own d (du ∷ [])) ⊛ ‵ (T.the-row α .own d (du ∷ []))) (LL.copy (T.the-type α) (T′.the-copy α) 𝓤 H A W .twice d (du ∷ [])) $ split ! $ move ! (0 ∷ 2 ∷ []) $ fjoin ! $
       move ! (4 ∷ 5 ∷ []) $ use2 W (raw (toks 𝓤 A 2 κs qs)) joined $ move ! (0 ∷ 1 ∷ []) $
-      asks 𝓤 H 𝓜 𝓖 𝓡 code.env (told.signature .result) (told.signature .params) (told.ended .kept) (told.clauses 𝓤 H A (𝓜 .mem) (𝓡 .run)) #told told-def.routine code.calls-held·plane·EccPlane·word (told-thm.met 𝓤 H 𝓜 𝓖 𝓡) κs qs (d, (y, (i, tt))) (du ∷ [], (bytesVal y ∷ [], (vint w64 i ∷ [], tt))) tt (id⊢ 𝓤 _)
-      (du ∷ bytesVal y ∷ vint w64 i ∷ []) refl (and-then ! (load ! (from ! (stop !)) (look ! 8 refl)) (and-then ! (load ! (from ! (stop !)) (look ! 20 refl)) (and-then ! (load ! (from ! (stop !)) (look ! 18 refl)) (no-more !)))) (λ p pu ws-p p-is.
+      asks-told 𝓤 H 𝓜 𝓖 𝓡 code.env (told.signature .result) (told.signature .params) (told.ended .kept) (told.clauses 𝓤 H A (𝓜 .mem) (𝓡 .run)) #told told-def.routine code.calls-held·plane·EccPlane·word (told-thm.met 𝓤 H 𝓜 𝓖 𝓡) κs qs (d, (y, (i, tt))) (du ∷ [], (bytesVal y ∷ [], (vint w64 i ∷ [], tt))) tt (id⊢ 𝓤 _)
+      (λ p. asWord p ≡ sliceWord (now y) (now (d .parity)) i) (λ p ws. id⊢ 𝓤 _) (du ∷ bytesVal y ∷ vint w64 i ∷ []) refl (and-then ! (load ! (from ! (stop !)) (look ! 8 refl)) (and-then ! (load ! (from ! (stop !)) (look ! 20 refl)) (and-then ! (load ! (from ! (stop !)) (look ! 18 refl)) (no-more !)))) (λ p pu p-is g.
       move ! (1 ∷ []) $ use1 W (Tok ⊛ Lft) parted $ split ! $
-      move ! (3 ∷ []) $ use1 W (raw (fact 𝓤 (asWord p ≡ sliceWord (now y) (now (d .parity)) i))) (id⊢ 𝓤 _) $ heard ! (asWord p ≡ sliceWord (now y) (now (d .parity)) i) (λ g.
       land ! (from ! (stop !)) (init ! 12 refl (EL.lawful Word.the-type Word′.the-laws 𝓤 H A W tt .typed p _ p-is .0)) $
-      assigns ! (of-opd ! (load ! (from ! (stop !)) (look ! 18 refl))) (from ! (stop !)) (init ! 6 refl (LL.lawful (T.the-type αᵉ) (T′.the-laws αᵉ) 𝓤 H A W .typed d _ d-is .0)) $
-      nothing ! $
-      move ! (5 ∷ 0 ∷ []) $ fjoin ! $
-      move ! (4 ∷ 0 ∷ []) $ fjoin ! $
-      move ! (1 ∷ 2 ∷ []) $ use2 W (raw (toks 𝓤 A 2 κs qs)) joined $ move ! (0 ∷ 1 ∷ []) $
-      asks 𝓤 H 𝓜 𝓖 𝓡 code.env (scanned.signature .result) (scanned.signature .params) (scanned.ended .kept) (scanned.clauses 𝓤 H A (𝓜 .mem) (𝓡 .run)) #scanned scanned-def.routine code.calls-held·plane·EccPlane·scan (scanned-thm.met 𝓤 H 𝓜 𝓖 𝓡) κs qs (d, (y, tt)) (du ∷ [], (bytesVal y ∷ [], tt)) tt (id⊢ 𝓤 _)
-      (du ∷ bytesVal y ∷ []) refl (and-then ! (load ! (from ! (stop !)) (look ! 3 refl)) (and-then ! (load ! (from ! (stop !)) (look ! 19 refl)) (no-more !))) (λ q qu ws-q q-is.
+      assigns ! (of-opd ! (load ! (from ! (stop !)) (look ! 18 refl))) (from ! (stop !)) (init ! 6 refl (LL.lawful (T.the-type αᵉ) (T′.the-laws αᵉ) 𝓤 H A W .typed d _ d-is .0)) $ nothing ! $ move ! (5 ∷ 0 ∷ []) $ fjoin ! $
+      move ! (4 ∷ 0 ∷ []) $ fjoin ! $ move ! (1 ∷ 2 ∷ []) $ use2 W (raw (toks 𝓤 A 2 κs qs)) joined $ move ! (0 ∷ 1 ∷ []) $
+      asks-told 𝓤 H 𝓜 𝓖 𝓡 code.env (scanned.signature .result) (scanned.signature .params) (scanned.ended .kept) (scanned.clauses 𝓤 H A (𝓜 .mem) (𝓡 .run)) #scanned scanned-def.routine code.calls-held·plane·EccPlane·scan (scanned-thm.met 𝓤 H 𝓜 𝓖 𝓡) κs qs (d, (y, tt)) (du ∷ [], (bytesVal y ∷ [], tt)) tt (id⊢ 𝓤 _)
+      (λ q. asReport q ≡ sliceScan (now y) (now (d .parity))) (λ q ws. id⊢ 𝓤 _) (du ∷ bytesVal y ∷ []) refl (and-then ! (load ! (from ! (stop !)) (look ! 3 refl)) (and-then ! (load ! (from ! (stop !)) (look ! 19 refl)) (no-more !))) (λ q qu q-is h.
       move ! (1 ∷ []) $ use1 W (Tok ⊛ Lft) parted $ split ! $
-      move ! (3 ∷ []) $ use1 W (raw (fact 𝓤 (asReport q ≡ sliceScan (now y) (now (d .parity))))) (id⊢ 𝓤 _) $ heard ! (asReport q ≡ sliceScan (now y) (now (d .parity))) (λ h.
-      land ! (from ! (stop !)) (init ! 7 refl (LL.lawful Report.the-type Report′.the-laws 𝓤 H A W .typed q _ q-is .0)) $
-      nothing ! $
-      move ! (3 ∷ 0 ∷ []) $ fjoin ! $
-      move ! (3 ∷ 0 ∷ []) $ fjoin ! $
-      move ! (3 ∷ 0 ∷ []) $ fjoin ! $
+      land ! (from ! (stop !)) (init ! 7 refl (LL.lawful Report.the-type Report′.the-laws 𝓤 H A W .typed q _ q-is .0)) $ nothing ! $ move ! (3 ∷ 0 ∷ []) $ fjoin ! $ move ! (3 ∷ 0 ∷ []) $ fjoin ! $ move ! (3 ∷ 0 ∷ []) $ fjoin ! $
       move ! (1 ∷ 0 ∷ []) $
-      asks 𝓤 H 𝓜 𝓖 𝓡 code.env (put.signature .result) (put.signature .params) (put.ended .kept) (put.clauses 𝓤 H A (𝓜 .mem) (𝓡 .run)) #put put-def.routine code.calls-kw-test·values·plane-answer (put-thm.met 𝓤 H 𝓜 𝓖 𝓡) (κs .0, tt) (qs .0, tt) (w, (p, (q, tt))) (wu ∷ [], (pu ∷ [], (qu ∷ [], tt))) tt (id⊢ 𝓤 _)
-      (wu ∷ pu ∷ qu ∷ []) refl (and-then ! (load ! (from ! (stop !)) (look ! 12 refl)) (and-then ! (load ! (from ! (stop !)) (look ! 8 refl)) (and-then ! (load ! (from ! (stop !)) (look ! 4 refl)) (no-more !)))) (λ r u ws-r r-is.
-      move ! (2 ∷ []) $ use1 W (raw (fact 𝓤 (r ≡ planeAnswer (now w) (asWord p) (asReport q)))) (id⊢ 𝓤 _) $ heard ! (r ≡ planeAnswer (now w) (asWord p) (asReport q)) (λ j.
+      asks-told 𝓤 H 𝓜 𝓖 𝓡 code.env (put.signature .result) (put.signature .params) (put.ended .kept) (put.clauses 𝓤 H A (𝓜 .mem) (𝓡 .run)) #put put-def.routine code.calls-kw-test·values·plane-answer (put-thm.met 𝓤 H 𝓜 𝓖 𝓡) (κs .0, tt) (qs .0, tt) (w, (p, (q, tt))) (wu ∷ [], (pu ∷ [], (qu ∷ [], tt))) tt (id⊢ 𝓤 _)
+      (λ r. r ≡ planeAnswer (now w) (asWord p) (asReport q)) (λ r ws. id⊢ 𝓤 _) (wu ∷ pu ∷ qu ∷ []) refl (and-then ! (load ! (from ! (stop !)) (look ! 12 refl)) (and-then ! (load ! (from ! (stop !)) (look ! 8 refl)) (and-then ! (load ! (from ! (stop !)) (look ! 4 refl)) (no-more !)))) (λ r u r-is j.
       land ! (from ! (stop !)) (init ! 23 refl (array-lawful 𝓤 H A W u64 (uint-lawful 𝓤 H A W w64) 8 .typed r _ r-is .0)) $
       returns ! (look ! 23 refl) $ forget ! 3 refl $ forget ! 5 refl $ forget ! 7 refl $ forget ! 9 refl $ forget ! 11 refl $ forget ! 13 refl $ forget ! 15 refl $ forget ! 17 refl $ forget ! 19 refl $ forget ! 21 refl $ forget ! 23 refl $
       move ! (23 ∷ 24 ∷ []) $ free1 ! $ move ! (21 ∷ 22 ∷ []) $ free1 ! $ move ! (19 ∷ 20 ∷ []) $ free1 ! $ move ! (17 ∷ 18 ∷ []) $ free1 ! $ move ! (15 ∷ 16 ∷ []) $ free1 ! $ move ! (13 ∷ 14 ∷ []) $ free1 ! $ move ! (11 ∷ 12 ∷ []) $ free1 ! $ move ! (9 ∷ 10 ∷ []) $ free1 ! $ move ! (7 ∷ 8 ∷ []) $ free1 ! $ move ! (5 ∷ 6 ∷ []) $ free1 ! $ move ! (3 ∷ 4 ∷ []) $ free1 ! $ free0 ! $
-      keep ! (0 ∷ 1 ∷ 2 ∷ []) $ by ! (exits r u (plane-is (now x) (now y) i (ap now e) (ap now f) g h j)))))))))))))))))))))))
+      keep ! (0 ∷ 1 ∷ 2 ∷ []) $ by ! (exits r u (plane-is (now x) (now y) i (ap now e) (ap now f) g h j))))))))))))))))))
 
 pub plane-facts-spec : {M : Type 1} → stated.statement M
 unfolding code.routine

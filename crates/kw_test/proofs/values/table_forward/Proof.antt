@@ -13,7 +13,6 @@ use prog.Model.{Model}
 use prog.Wp.{Heap, WpFn}
 use ghost.Atoms.{Atoms}
 use contract.Lifetimes.{Lfts, Shares, toks}
-use contract.Monad.{fact}
 use contract.Running.{GhostRules, Running, givenOf}
 use types.Kit.{Given, Item, ‵, raw, _⊛_, mean, ⋆, _$_, _∵_, !, qed, by, move, keep, use1, split, fsplit, fjoin, done}
 use types.Run.{look, init, forget, stop, from, load, of-opd, and-then, no-more, assigns, land, returns, enter, alloc1, alloc0, params1, pass1, pass0, free1, free0}
@@ -24,7 +23,7 @@ use denote.Builtin.{u8, u32, usize}
 use denote.Ref.{RefT, NamedLft, now}
 use denote.Signature.{namedLft}
 use denote.Slice.{ShrSlice, slice-vals, shr-slice-tells}
-use denote.Steps.{owned, heard, nothing}
+use denote.Steps.{owned, nothing}
 use denote.Struct.Laws as LL
 use denote.Triple.Entry.{onEntry}
 use denote.Triple.Walked.{walkOf}
@@ -45,7 +44,7 @@ use Rattle.kw_test.proofs.values.table_forward.Key.{name as #me}
 use Rattle.kw_test.proofs.values.table_forward as me
 use Rattle.kw_test.proofs.values.table_forward.Statement as stated
 use Rattle.kw_test.proofs.values.table_forward.Code as code
-use Rattle.held.proofs.Asks.{asks}
+use Rattle.held.proofs.Asks.{asks-told}
 use Rattle.held.proofs.Parts.{bytesVal, number, slice}
 use Rattle.held.proofs.Shown.{hs, Post, leaves-with, shown, C, Λ}
 
@@ -82,29 +81,20 @@ module _ {M : Type 1} (𝓤 : URA M) (H : Heap 𝓤) (𝓜 : Model 𝓤 H) (𝓖
   walk x-is k-is at-is first-is count-is =
       qed W (raw Pre ∷ []) ∵ enter ! (C 𝓤 H 𝓜 𝓖 𝓡 code.env) (Λ 𝓤 H 𝓜 𝓖 𝓡 code.env) code.function (bytesVal x ∷ vint w64 k ∷ vint w64 at ∷ vint w32 first ∷ vint w32 count ∷ []) (Post 𝓤 H A W me.ended (me.clauses 𝓤 H A (𝓜 .mem) (𝓡 .run)) Y) $
       alloc1 ! (λ l₀. alloc1 ! (λ l₁. alloc1 ! (λ l₂. alloc1 ! (λ l₃. alloc1 ! (λ l₄. alloc1 ! (λ l₅. alloc1 ! (λ l₆. alloc1 ! (λ l₇. alloc0 ! $ params1 ! $ pass1 ! (init ! 12 refl (slice 𝓤 H 𝓜 𝓖 (named 0) (κs .0) x x-is .typed)) $ pass1 ! (init ! 10 refl (number 𝓤 H 𝓜 𝓖 w64 k k-is .typed)) $ pass1 ! (init ! 8 refl (number 𝓤 H 𝓜 𝓖 w64 at at-is .typed)) $ pass1 ! (init ! 6 refl (number 𝓤 H 𝓜 𝓖 w32 first first-is .typed)) $ pass1 ! (init ! 4 refl (number 𝓤 H 𝓜 𝓖 w32 count count-is .typed)) $ pass0 ! $
-      move ! (16 ∷ []) $ use1 W (Tok ⊛ ‵ (ShrSlice (named 0) (κs .0) u8 .own x (bytesVal x ∷ []))) enters $ split ! $
-      nothing ! $
-      owned ! usize (Is usize) (uint-makes 𝓤 H A W w64) k _ k-is $ fjoin ! $
-      move ! (2 ∷ 0 ∷ []) $ fjoin ! $
+      move ! (16 ∷ []) $ use1 W (Tok ⊛ ‵ (ShrSlice (named 0) (κs .0) u8 .own x (bytesVal x ∷ []))) enters $ split ! $ nothing ! $ owned ! usize (Is usize) (uint-makes 𝓤 H A W w64) k _ k-is $ fjoin ! $ move ! (2 ∷ 0 ∷ []) $ fjoin ! $
       move ! (1 ∷ 0 ∷ []) $
-      asks 𝓤 H 𝓜 𝓖 𝓡 code.env (made.signature .result) (made.signature .params) (made.ended .kept) (made.clauses 𝓤 H A (𝓜 .mem) (𝓡 .run)) #made made-def.routine code.calls-held·table·RecordTable·from-bytes (made-thm.met 𝓤 H 𝓜 𝓖 𝓡) κs qs (x, (k, tt)) (bytesVal x ∷ [], (vint w64 k ∷ [], tt)) tt (id⊢ 𝓤 _)
-      (bytesVal x ∷ vint w64 k ∷ []) refl (and-then ! (load ! (from ! (stop !)) (look ! 13 refl)) (and-then ! (load ! (from ! (stop !)) (look ! 11 refl)) (no-more !))) (λ d du ws-d d-is.
-      move ! (2 ∷ []) $ use1 W (raw (fact 𝓤 ((now (d .bytes) ≡ tableOf (now x) k) × (d .stride ≡ strideOf (now x) k)))) (id⊢ 𝓤 _) $ heard ! ((now (d .bytes) ≡ tableOf (now x) k) × (d .stride ≡ strideOf (now x) k)) (λ e.
+      asks-told 𝓤 H 𝓜 𝓖 𝓡 code.env (made.signature .result) (made.signature .params) (made.ended .kept) (made.clauses 𝓤 H A (𝓜 .mem) (𝓡 .run)) #made made-def.routine code.calls-held·table·RecordTable·from-bytes (made-thm.met 𝓤 H 𝓜 𝓖 𝓡) κs qs (x, (k, tt)) (bytesVal x ∷ [], (vint w64 k ∷ [], tt)) tt (id⊢ 𝓤 _)
+      (λ d. (now (d .bytes) ≡ tableOf (now x) k) × (d .stride ≡ strideOf (now x) k)) (λ d ws. id⊢ 𝓤 _) (bytesVal x ∷ vint w64 k ∷ []) refl (and-then ! (load ! (from ! (stop !)) (look ! 13 refl)) (and-then ! (load ! (from ! (stop !)) (look ! 11 refl)) (no-more !))) (λ d du d-is e.
       land ! (from ! (stop !)) (init ! 4 refl (LL.lawful (T.the-type αᵉ) (T′.the-laws αᵉ) 𝓤 H A W .typed d _ d-is .0)) $
-      assigns ! (of-opd ! (load ! (from ! (stop !)) (look ! 4 refl))) (from ! (stop !)) (init ! 2 refl (LL.lawful (T.the-type αᵉ) (T′.the-laws αᵉ) 𝓤 H A W .typed d _ d-is .0)) $
-      nothing ! $
-      owned ! u32 (Is u32) (uint-makes 𝓤 H A W w32) count _ count-is $ fjoin ! $
-      owned ! u32 (Is u32) (uint-makes 𝓤 H A W w32) first _ first-is $ fjoin ! $
-      owned ! usize (Is usize) (uint-makes 𝓤 H A W w64) at _ at-is $ fjoin ! $
-      move ! (1 ∷ 0 ∷ []) $ fjoin ! $
-      move ! (1 ∷ 0 ∷ []) $
-      asks 𝓤 H 𝓜 𝓖 𝓡 code.env (forward.signature .result) (forward.signature .params) (forward.ended .kept) (forward.clauses 𝓤 H A (𝓜 .mem) (𝓡 .run)) #forward forward-def.routine code.calls-held·table·RecordTable·range-is-forward (forward-thm.met 𝓤 H 𝓜 𝓖 𝓡) κs qs (d, (at, (first, (count, tt)))) (du ∷ [], (vint w64 at ∷ [], (vint w32 first ∷ [], (vint w32 count ∷ [], tt)))) tt (id⊢ 𝓤 _)
-      (du ∷ vint w64 at ∷ vint w32 first ∷ vint w32 count ∷ []) refl (and-then ! (load ! (from ! (stop !)) (look ! 1 refl)) (and-then ! (load ! (from ! (stop !)) (look ! 9 refl)) (and-then ! (load ! (from ! (stop !)) (look ! 7 refl)) (and-then ! (load ! (from ! (stop !)) (look ! 5 refl)) (no-more !))))) (λ r u ws-r r-is.
-      move ! (2 ∷ []) $ use1 W (raw (fact 𝓤 (r ≡ rangeIsForward (recordCount (length (now (d .bytes))) (d .stride)) at first count))) (id⊢ 𝓤 _) $ heard ! (r ≡ rangeIsForward (recordCount (length (now (d .bytes))) (d .stride)) at first count) (λ f.
+      assigns ! (of-opd ! (load ! (from ! (stop !)) (look ! 4 refl))) (from ! (stop !)) (init ! 2 refl (LL.lawful (T.the-type αᵉ) (T′.the-laws αᵉ) 𝓤 H A W .typed d _ d-is .0)) $ nothing ! $
+      owned ! u32 (Is u32) (uint-makes 𝓤 H A W w32) count _ count-is $ fjoin ! $ owned ! u32 (Is u32) (uint-makes 𝓤 H A W w32) first _ first-is $ fjoin ! $ owned ! usize (Is usize) (uint-makes 𝓤 H A W w64) at _ at-is $ fjoin ! $
+      move ! (1 ∷ 0 ∷ []) $ fjoin ! $ move ! (1 ∷ 0 ∷ []) $
+      asks-told 𝓤 H 𝓜 𝓖 𝓡 code.env (forward.signature .result) (forward.signature .params) (forward.ended .kept) (forward.clauses 𝓤 H A (𝓜 .mem) (𝓡 .run)) #forward forward-def.routine code.calls-held·table·RecordTable·range-is-forward (forward-thm.met 𝓤 H 𝓜 𝓖 𝓡) κs qs (d, (at, (first, (count, tt)))) (du ∷ [], (vint w64 at ∷ [], (vint w32 first ∷ [], (vint w32 count ∷ [], tt)))) tt (id⊢ 𝓤 _)
+      (λ r. r ≡ rangeIsForward (recordCount (length (now (d .bytes))) (d .stride)) at first count) (λ r ws. id⊢ 𝓤 _) (du ∷ vint w64 at ∷ vint w32 first ∷ vint w32 count ∷ []) refl (and-then ! (load ! (from ! (stop !)) (look ! 1 refl)) (and-then ! (load ! (from ! (stop !)) (look ! 9 refl)) (and-then ! (load ! (from ! (stop !)) (look ! 7 refl)) (and-then ! (load ! (from ! (stop !)) (look ! 5 refl)) (no-more !))))) (λ r u r-is f.
       land ! (from ! (stop !)) (init ! 16 refl (bool-lawful 𝓤 H A W .typed r _ r-is .0)) $
       returns ! (look ! 16 refl) $ forget ! 2 refl $ forget ! 4 refl $ forget ! 6 refl $ forget ! 8 refl $ forget ! 10 refl $ forget ! 12 refl $ forget ! 14 refl $ forget ! 16 refl $
       move ! (16 ∷ 17 ∷ []) $ free1 ! $ move ! (14 ∷ 15 ∷ []) $ free1 ! $ move ! (12 ∷ 13 ∷ []) $ free1 ! $ move ! (10 ∷ 11 ∷ []) $ free1 ! $ move ! (8 ∷ 9 ∷ []) $ free1 ! $ move ! (6 ∷ 7 ∷ []) $ free1 ! $ move ! (4 ∷ 5 ∷ []) $ free1 ! $ move ! (2 ∷ 3 ∷ []) $ free1 ! $ free0 ! $
-      keep ! (0 ∷ 1 ∷ []) $ by ! (exits r u (forward-is (now x) k (e .0) (e .1) at first count f))))))))))))))
+      keep ! (0 ∷ 1 ∷ []) $ by ! (exits r u (forward-is (now x) k (e .0) (e .1) at first count f))))))))))))
 
 pub table-forward-spec : {M : Type 1} → stated.statement M
 unfolding code.routine

@@ -12,7 +12,6 @@ use prog.Model.{Model}
 use prog.Wp.{Heap, WpFn}
 use ghost.Atoms.{Atoms}
 use contract.Lifetimes.{Lfts, Shares, toks}
-use contract.Monad.{fact}
 use contract.Running.{GhostRules, Running, givenOf}
 use types.Kit.{Given, Item, ‵, raw, _⊛_, mean, ⋆, _$_, _∵_, !, qed, by, move, keep, use1, split, fsplit, fjoin, done}
 use types.Run.{look, init, forget, stop, from, load, of-opd, and-then, no-more, assigns, land, returns, enter, alloc1, alloc0, params1, pass1, pass0, free1, free0}
@@ -24,7 +23,7 @@ use denote.Array.{Array, array-lawful}
 use denote.Ref.{RefT, NamedLft, now}
 use denote.Signature.{namedLft}
 use denote.Slice.{ShrSlice, slice-vals, shr-slice-tells, shr-slice-lawful}
-use denote.Steps.{owned, heard, nothing}
+use denote.Steps.{owned, nothing}
 use denote.Enum.Laws as EL
 use denote.Struct.Laws as LL
 use denote.Triple.Entry.{onEntry}
@@ -57,7 +56,7 @@ use Rattle.kw_test.proofs.values.table_record.Key.{name as #me}
 use Rattle.kw_test.proofs.values.table_record as me
 use Rattle.kw_test.proofs.values.table_record.Statement as stated
 use Rattle.kw_test.proofs.values.table_record.Code as code
-use Rattle.held.proofs.Asks.{asks}
+use Rattle.held.proofs.Asks.{asks-told}
 use Rattle.held.proofs.Parts.{bytesVal, number, slice}
 use Rattle.held.proofs.Shown.{hs, Post, leaves-with, shown, C, Λ}
 
@@ -94,44 +93,28 @@ module _ {M : Type 1} (𝓤 : URA M) (H : Heap 𝓤) (𝓜 : Model 𝓤 H) (𝓖
   walk x-is k-is i-is =
       qed W (raw Pre ∷ []) ∵ enter ! (C 𝓤 H 𝓜 𝓖 𝓡 code.env) (Λ 𝓤 H 𝓜 𝓖 𝓡 code.env) code.function (bytesVal x ∷ vint w64 k ∷ vint w64 i ∷ []) (Post 𝓤 H A W me.ended (me.clauses 𝓤 H A (𝓜 .mem) (𝓡 .run)) Y) $
       alloc1 ! (λ l₀. alloc1 ! (λ l₁. alloc1 ! (λ l₂. alloc1 ! (λ l₃. alloc1 ! (λ l₄. alloc1 ! (λ l₅. alloc1 ! (λ l₆. alloc1 ! (λ l₇. alloc1 ! (λ l₈. alloc0 ! $ params1 ! $ pass1 ! (init ! 14 refl (slice 𝓤 H 𝓜 𝓖 (named 0) (κs .0) x x-is .typed)) $ pass1 ! (init ! 12 refl (number 𝓤 H 𝓜 𝓖 w64 k k-is .typed)) $ pass1 ! (init ! 10 refl (number 𝓤 H 𝓜 𝓖 w64 i i-is .typed)) $ pass0 ! $
-      move ! (18 ∷ []) $ use1 W (Tok ⊛ ‵ (ShrSlice (named 0) (κs .0) u8 .own x (bytesVal x ∷ []))) enters $ split ! $
-      nothing ! $
-      owned ! usize (Is usize) (uint-makes 𝓤 H A W w64) k _ k-is $ fjoin ! $
-      move ! (2 ∷ 0 ∷ []) $ fjoin ! $
+      move ! (18 ∷ []) $ use1 W (Tok ⊛ ‵ (ShrSlice (named 0) (κs .0) u8 .own x (bytesVal x ∷ []))) enters $ split ! $ nothing ! $ owned ! usize (Is usize) (uint-makes 𝓤 H A W w64) k _ k-is $ fjoin ! $ move ! (2 ∷ 0 ∷ []) $ fjoin ! $
       move ! (1 ∷ 0 ∷ []) $
-      asks 𝓤 H 𝓜 𝓖 𝓡 code.env (made.signature .result) (made.signature .params) (made.ended .kept) (made.clauses 𝓤 H A (𝓜 .mem) (𝓡 .run)) #made made-def.routine code.calls-held·table·RecordTable·from-bytes (made-thm.met 𝓤 H 𝓜 𝓖 𝓡) κs qs (x, (k, tt)) (bytesVal x ∷ [], (vint w64 k ∷ [], tt)) tt (id⊢ 𝓤 _)
-      (bytesVal x ∷ vint w64 k ∷ []) refl (and-then ! (load ! (from ! (stop !)) (look ! 15 refl)) (and-then ! (load ! (from ! (stop !)) (look ! 13 refl)) (no-more !))) (λ d du ws-d d-is.
-      move ! (2 ∷ []) $ use1 W (raw (fact 𝓤 ((now (d .bytes) ≡ tableOf (now x) k) × (d .stride ≡ strideOf (now x) k)))) (id⊢ 𝓤 _) $ heard ! ((now (d .bytes) ≡ tableOf (now x) k) × (d .stride ≡ strideOf (now x) k)) (λ e.
+      asks-told 𝓤 H 𝓜 𝓖 𝓡 code.env (made.signature .result) (made.signature .params) (made.ended .kept) (made.clauses 𝓤 H A (𝓜 .mem) (𝓡 .run)) #made made-def.routine code.calls-held·table·RecordTable·from-bytes (made-thm.met 𝓤 H 𝓜 𝓖 𝓡) κs qs (x, (k, tt)) (bytesVal x ∷ [], (vint w64 k ∷ [], tt)) tt (id⊢ 𝓤 _)
+      (λ d. (now (d .bytes) ≡ tableOf (now x) k) × (d .stride ≡ strideOf (now x) k)) (λ d ws. id⊢ 𝓤 _) (bytesVal x ∷ vint w64 k ∷ []) refl (and-then ! (load ! (from ! (stop !)) (look ! 15 refl)) (and-then ! (load ! (from ! (stop !)) (look ! 13 refl)) (no-more !))) (λ d du d-is e.
       land ! (from ! (stop !)) (init ! 10 refl (LL.lawful (T.the-type αᵉ) (T′.the-laws αᵉ) 𝓤 H A W .typed d _ d-is .0)) $
-      assigns ! (of-opd ! (load ! (from ! (stop !)) (look ! 10 refl))) (from ! (stop !)) (init ! 6 refl (LL.lawful (T.the-type αᵉ) (T′.the-laws αᵉ) 𝓤 H A W .typed d _ d-is .0)) $
-      nothing ! $
+      assigns ! (of-opd ! (load ! (from ! (stop !)) (look ! 10 refl))) (from ! (stop !)) (init ! 6 refl (LL.lawful (T.the-type αᵉ) (T′.the-laws αᵉ) 𝓤 H A W .typed d _ d-is .0)) $ nothing ! $
       owned ! usize (Is usize) (uint-makes 𝓤 H A W w64) i _ i-is $ fjoin ! $
-      move ! (1 ∷ []) $ use1 W (‵ (T.the-row α .own d (du ∷ [])) ⊛ ‵ (T.the-row α .own d (du ∷ []))) (LL.copy (T.the-type α) (T′.the-copy α) 𝓤 H A W .twice d (du ∷ [])) $ split ! $ move ! (0 ∷ 2 ∷ []) $ fjoin ! $
-      move ! (2 ∷ 0 ∷ []) $
-      asks 𝓤 H 𝓜 𝓖 𝓡 code.env (placed.signature .result) (placed.signature .params) (placed.ended .kept) (placed.clauses 𝓤 H A (𝓜 .mem) (𝓡 .run)) #placed placed-def.routine code.calls-held·table·RecordTable·place (placed-thm.met 𝓤 H 𝓜 𝓖 𝓡) κs qs (d, (i, tt)) (du ∷ [], (vint w64 i ∷ [], tt)) tt (id⊢ 𝓤 _)
-      (du ∷ vint w64 i ∷ []) refl (and-then ! (load ! (from ! (stop !)) (look ! 6 refl)) (and-then ! (load ! (from ! (stop !)) (look ! 12 refl)) (no-more !))) (λ p pu ws-p p-is.
-      move ! (2 ∷ []) $ use1 W (raw (fact 𝓤 (asPlace p ≡ recordRange (length (now (d .bytes))) (d .stride) i))) (id⊢ 𝓤 _) $ heard ! (asPlace p ≡ recordRange (length (now (d .bytes))) (d .stride) i) (λ f.
+      move ! (1 ∷ []) $ use1 W (‵ (T.the-row α .own d (du ∷ [])) ⊛ ‵ (T.the-row α .own d (du ∷ []))) (LL.copy (T.the-type α) (T′.the-copy α) 𝓤 H A W .twice d (du ∷ [])) $ split ! $ move ! (0 ∷ 2 ∷ []) $ fjoin ! $ move ! (2 ∷ 0 ∷ []) $
+      asks-told 𝓤 H 𝓜 𝓖 𝓡 code.env (placed.signature .result) (placed.signature .params) (placed.ended .kept) (placed.clauses 𝓤 H A (𝓜 .mem) (𝓡 .run)) #placed placed-def.routine code.calls-held·table·RecordTable·place (placed-thm.met 𝓤 H 𝓜 𝓖 𝓡) κs qs (d, (i, tt)) (du ∷ [], (vint w64 i ∷ [], tt)) tt (id⊢ 𝓤 _)
+      (λ p. asPlace p ≡ recordRange (length (now (d .bytes))) (d .stride) i) (λ p ws. id⊢ 𝓤 _) (du ∷ vint w64 i ∷ []) refl (and-then ! (load ! (from ! (stop !)) (look ! 6 refl)) (and-then ! (load ! (from ! (stop !)) (look ! 12 refl)) (no-more !))) (λ p pu p-is f.
       land ! (from ! (stop !)) (init ! 9 refl (EL.lawful Place.the-type Place′.the-laws 𝓤 H A W tt .typed p _ p-is .0)) $
-      assigns ! (of-opd ! (load ! (from ! (stop !)) (look ! 11 refl))) (from ! (stop !)) (init ! 3 refl (LL.lawful (T.the-type αᵉ) (T′.the-laws αᵉ) 𝓤 H A W .typed d _ d-is .0)) $
-      nothing ! $
-      owned ! usize (Is usize) (uint-makes 𝓤 H A W w64) i _ i-is $ fjoin ! $
-      move ! (3 ∷ 0 ∷ []) $ fjoin ! $
-      move ! (2 ∷ 0 ∷ []) $
-      asks 𝓤 H 𝓜 𝓖 𝓡 code.env (got.signature .result) (got.signature .params) (got.ended .kept) (got.clauses 𝓤 H A (𝓜 .mem) (𝓡 .run)) #got got-def.routine code.calls-held·table·RecordTable·get (got-thm.met 𝓤 H 𝓜 𝓖 𝓡) κs qs (d, (i, tt)) (du ∷ [], (vint w64 i ∷ [], tt)) tt (id⊢ 𝓤 _)
-      (du ∷ vint w64 i ∷ []) refl (and-then ! (load ! (from ! (stop !)) (look ! 2 refl)) (and-then ! (load ! (from ! (stop !)) (look ! 12 refl)) (no-more !))) (λ q qu ws-q q-is.
-      move ! (2 ∷ []) $ use1 W (raw (fact 𝓤 (now q ≡ partIn (now (d .bytes)) (recordRange (length (now (d .bytes))) (d .stride) i)))) (id⊢ 𝓤 _) $ heard ! (now q ≡ partIn (now (d .bytes)) (recordRange (length (now (d .bytes))) (d .stride) i)) (λ g.
-      land ! (from ! (stop !)) (init ! 5 refl (shr-slice-lawful 𝓤 H A W erased (κs .0) u8 .typed q _ q-is .0)) $
-      nothing ! $
-      move ! (1 ∷ 0 ∷ []) $ fjoin ! $
-      move ! (2 ∷ 0 ∷ []) $ fjoin ! $
-      move ! (1 ∷ 0 ∷ []) $
-      asks 𝓤 H 𝓜 𝓖 𝓡 code.env (put.signature .result) (put.signature .params) (put.ended .kept) (put.clauses 𝓤 H A (𝓜 .mem) (𝓡 .run)) #put put-def.routine code.calls-kw-test·values·part-answer (put-thm.met 𝓤 H 𝓜 𝓖 𝓡) κs qs (p, (q, tt)) (pu ∷ [], (qu ∷ [], tt)) tt (id⊢ 𝓤 _)
-      (pu ∷ qu ∷ []) refl (and-then ! (load ! (from ! (stop !)) (look ! 7 refl)) (and-then ! (load ! (from ! (stop !)) (look ! 3 refl)) (no-more !))) (λ r u ws-r r-is.
-      move ! (2 ∷ []) $ use1 W (raw (fact 𝓤 (r ≡ partAnswer (asPlace p) (now q)))) (id⊢ 𝓤 _) $ heard ! (r ≡ partAnswer (asPlace p) (now q)) (λ h.
+      assigns ! (of-opd ! (load ! (from ! (stop !)) (look ! 11 refl))) (from ! (stop !)) (init ! 3 refl (LL.lawful (T.the-type αᵉ) (T′.the-laws αᵉ) 𝓤 H A W .typed d _ d-is .0)) $ nothing ! $
+      owned ! usize (Is usize) (uint-makes 𝓤 H A W w64) i _ i-is $ fjoin ! $ move ! (3 ∷ 0 ∷ []) $ fjoin ! $ move ! (2 ∷ 0 ∷ []) $
+      asks-told 𝓤 H 𝓜 𝓖 𝓡 code.env (got.signature .result) (got.signature .params) (got.ended .kept) (got.clauses 𝓤 H A (𝓜 .mem) (𝓡 .run)) #got got-def.routine code.calls-held·table·RecordTable·get (got-thm.met 𝓤 H 𝓜 𝓖 𝓡) κs qs (d, (i, tt)) (du ∷ [], (vint w64 i ∷ [], tt)) tt (id⊢ 𝓤 _)
+      (λ q. now q ≡ partIn (now (d .bytes)) (recordRange (length (now (d .bytes))) (d .stride) i)) (λ q ws. id⊢ 𝓤 _) (du ∷ vint w64 i ∷ []) refl (and-then ! (load ! (from ! (stop !)) (look ! 2 refl)) (and-then ! (load ! (from ! (stop !)) (look ! 12 refl)) (no-more !))) (λ q qu q-is g.
+      land ! (from ! (stop !)) (init ! 5 refl (shr-slice-lawful 𝓤 H A W erased (κs .0) u8 .typed q _ q-is .0)) $ nothing ! $ move ! (1 ∷ 0 ∷ []) $ fjoin ! $ move ! (2 ∷ 0 ∷ []) $ fjoin ! $ move ! (1 ∷ 0 ∷ []) $
+      asks-told 𝓤 H 𝓜 𝓖 𝓡 code.env (put.signature .result) (put.signature .params) (put.ended .kept) (put.clauses 𝓤 H A (𝓜 .mem) (𝓡 .run)) #put put-def.routine code.calls-kw-test·values·part-answer (put-thm.met 𝓤 H 𝓜 𝓖 𝓡) κs qs (p, (q, tt)) (pu ∷ [], (qu ∷ [], tt)) tt (id⊢ 𝓤 _)
+      (λ r. r ≡ partAnswer (asPlace p) (now q)) (λ r ws. id⊢ 𝓤 _) (pu ∷ qu ∷ []) refl (and-then ! (load ! (from ! (stop !)) (look ! 7 refl)) (and-then ! (load ! (from ! (stop !)) (look ! 3 refl)) (no-more !))) (λ r u r-is h.
       land ! (from ! (stop !)) (init ! 18 refl (array-lawful 𝓤 H A W u64 (uint-lawful 𝓤 H A W w64) 5 .typed r _ r-is .0)) $
       returns ! (look ! 18 refl) $ forget ! 2 refl $ forget ! 4 refl $ forget ! 6 refl $ forget ! 8 refl $ forget ! 10 refl $ forget ! 12 refl $ forget ! 14 refl $ forget ! 16 refl $ forget ! 18 refl $
       move ! (18 ∷ 19 ∷ []) $ free1 ! $ move ! (16 ∷ 17 ∷ []) $ free1 ! $ move ! (14 ∷ 15 ∷ []) $ free1 ! $ move ! (12 ∷ 13 ∷ []) $ free1 ! $ move ! (10 ∷ 11 ∷ []) $ free1 ! $ move ! (8 ∷ 9 ∷ []) $ free1 ! $ move ! (6 ∷ 7 ∷ []) $ free1 ! $ move ! (4 ∷ 5 ∷ []) $ free1 ! $ move ! (2 ∷ 3 ∷ []) $ free1 ! $ free0 ! $
-      keep ! (0 ∷ 1 ∷ []) $ by ! (exits r u (record-is (now x) k (e .0) (e .1) i f g h)))))))))))))))))))
+      keep ! (0 ∷ 1 ∷ []) $ by ! (exits r u (record-is (now x) k (e .0) (e .1) i f g h)))))))))))))))
 
 pub table-record-spec : {M : Type 1} → stated.statement M
 unfolding code.routine
