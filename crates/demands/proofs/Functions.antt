@@ -1,4 +1,4 @@
--- The demands of the functions themselves: `writer::write` and `repair::mend`, through their promises (specs/Runs.antt). Assumes nothing.
+-- The demands of the functions themselves: `writer::write`, `repair::mend` and `lines::scrub`, through their promises (specs/Runs.antt). Assumes nothing.
 use mathlib.Core.Path.{_≡_, refl, sym, ap, _∙_}
 use mathlib.Core.Bool.{Bool, true, false}
 use mathlib.Core.List.{List, []}
@@ -12,6 +12,9 @@ use Rattle.paper.specs.Parse.{parse, accepted}
 use Rattle.paper.specs.Scan.{scan}
 use Rattle.paper.specs.Scrub.{scrub}
 use Rattle.paper.specs.Writer.{planes}
+use Rattle.paper.specs.Programs.{storedLine}
+use Rattle.lines.specs.declared.Printed.{Printed}
+use lib.Seq.{sets}
 use Rattle.paper.specs.Mend.{apartVerdict, changed, wholeOf, Mending, mended, mend}
 use Rattle.error.specs.declared.Refusal.{Refusal}
 use Rattle.scan.specs.Answers.{asScan}
@@ -24,7 +27,7 @@ use Rattle.repair.specs.declared.mending.Mending as answer
 use Rattle.repair.specs.declared.mending.MendResult.{MendResult}
 use Rattle.repair.specs.declared.mending.MendResult.the-variants.{Mended, Refused}
 use Rattle.demands.specs.Damage.{Protected, Damaged, Touched, Lost, uncorrected, ReadsBack}
-use Rattle.demands.specs.Runs.{Writes, MendsTo}
+use Rattle.demands.specs.Runs.{Writes, MendsTo, Scrubs}
 use Rattle.demands.proofs.Demands as demands
 use Rattle.demands.proofs.RunLaw as run
 
@@ -38,6 +41,13 @@ module _ (rows : List Row) (payload out : List ℕ) (n : ℕ) (after : List ℕ)
   restores d damage r y mends =
       run.mends-to d r y _ mends
       (demands.restores (asPlan rows) payload (length out) (take n after) d (run.written rows payload out n after wrote) bytes damage)
+
+  -- The command writes the writer's exact bytes, and says how many differed.
+  pub command-restores : (d buffer : List ℕ) → Damaged 1 (take n after) d → length (take n after) ≤ 65536 → (r : Printed) (y line : List ℕ) → Scrubs d buffer r y line
+      → (take (r .image) y ≡ take n after) × (line ≡ sets buffer 0 (storedLine (changed d (take n after))))
+  command-restores d buffer damage short r y line scrubs =
+      let o = demands.command-restores (asPlan rows) payload (length out) (take n after) d (run.written rows payload out n after wrote) bytes damage short in
+      (scrubs .written ∙ o .0, scrubs .said ∙ ap (sets buffer 0) (o .1))
 
   -- No other rows or payload come to it.
   pub one-origin : (rows′ : List Row) (payload′ out′ : List ℕ) (n′ : ℕ) (after′ : List ℕ) → Writes rows′ payload′ out′ (Written n′) after′ → Bytes payload′

@@ -23,11 +23,15 @@ use Rattle.repair.specs.Answers.{asMended, leftBy}
 use Rattle.repair.specs.declared.mending.MendResult.{MendResult}
 use Rattle.repair.specs.declared.mending.MendResult.the-variants.{Mended, Refused}
 use Rattle.repair.specs.declared.mending.Mending.{Mending}
-use Rattle.demands.specs.Runs.{Writes, MendsTo}
+use Rattle.lines.proofs.scrub.Reads as command
+use Rattle.demands.specs.Runs.{Writes, MendsTo, Scrubs}
 
 -- what the function's proof gives its callers is what `MendsTo` says
 pub mend-promised : (κs : Lfts 1) (a : _) (r : _) (ws : _) → function.Learnt κs a r ws → MendsTo (now (a .0)) r (now (ws .0))
 mend-promised κs a r ws p = record { answer = p .0; leaves = p .1 }
+
+pub scrub-promised : (κs : Lfts 2) (a : _) (r : _) (ws : _) → command.Learnt κs a r ws → Scrubs (now (a .0)) (now (a .1 .0)) r (now (ws .0)) (now (ws .1 .0))
+scrub-promised κs a r ws p = record { written = p .1 .1 .1 .0 .1; said = p .1 .0 }
 
 -- ---- the writer wrote n bytes
 

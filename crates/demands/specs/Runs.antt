@@ -1,15 +1,18 @@
--- A run of a function, as its promise tells it: what it was lent, its answer, and what it left. (FORMAT 9, 10)
+-- A run of a function, as its promise tells it: what it was lent, its answer, and what it left. (FORMAT 9, 10, 11)
 use mathlib.Core.Path.{_≡_}
 use mathlib.Core.List.{List}
 use Prim.Native.Nat.{ℕ}
-use lib.ListN.{length}
+use lib.ListN.{length, take}
+use lib.Seq.{sets}
 use Rattle.paper.specs.Mend.{mend}
 use Rattle.paper.specs.Writer.{write}
+use Rattle.paper.specs.Programs.{scrubImage, scrubLine}
 use Rattle.writer.specs.Answers.{asPlan, asWritten, answerOf, bytesAfter}
 use Rattle.writer.specs.declared.plan.Row.{Row}
 use Rattle.writer.specs.declared.room.WriteResult.{WriteResult}
 use Rattle.repair.specs.Answers.{asMended, leftBy}
 use Rattle.repair.specs.declared.mending.MendResult.{MendResult}
+use Rattle.lines.specs.declared.Printed.{Printed}
 
 -- writer::write of these rows and this payload into `out`: it answered r and left `after`
 pub record Writes (rows : List Row) (payload out : List ℕ) (r : WriteResult) (after : List ℕ) : Type 0 where
@@ -20,3 +23,8 @@ pub record Writes (rows : List Row) (payload out : List ℕ) (r : WriteResult) (
 pub record MendsTo (x : List ℕ) (r : MendResult) (y : List ℕ) : Type 0 where
   pub answer : asMended r y ≡ mend x
   pub leaves : y ≡ leftBy (mend x) x
+
+-- lines::scrub of x, with a buffer for its line, as the command calls it: it answered r and left y and `line`
+pub record Scrubs (x buffer : List ℕ) (r : Printed) (y line : List ℕ) : Type 0 where
+  pub written : take (r .image) y ≡ scrubImage x
+  pub said : line ≡ sets buffer 0 (scrubLine x)
