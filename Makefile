@@ -51,7 +51,8 @@ target/bin/%: $(PROVED)
 host/build/sample.kw: host/build/make_image
 	host/build/make_image >$@
 
-demo: $(PROGRAMS) host/build/sample.kw
+demo: $(PROGRAMS)
+	@$(MAKE) -s host/build/sample.kw
 	@sh host/example/demo.sh target/bin host/build/sample.kw
 
 test:
