@@ -7,27 +7,30 @@ use lib.Dec.{ltb}
 use lib.ListN.{length, take}
 use Rattle.paper.specs.Bytes.{at, wordAt, Bytes}
 use Rattle.paper.specs.Refusals.{fine}
-use Rattle.paper.specs.Layout.{count, headerLength, directory, scrubWanted}
-use Rattle.paper.specs.Parse.{parse, accepted}
+use Rattle.paper.specs.Layout.{count, headerLength, header, directory, scrubWanted}
+use Rattle.paper.specs.Parse.{headerOf, parse, accepted}
 use Rattle.paper.specs.Scan.{scan}
 use Rattle.paper.specs.Scrub.{scrub}
 use Rattle.paper.specs.Writer.{planes}
 use Rattle.paper.specs.Programs.{storedLine}
 use Rattle.lines.specs.declared.Printed.{Printed}
 use lib.Seq.{sets}
-use Rattle.paper.specs.Mend.{apartVerdict, changed, wholeOf, Mending, mended, mend}
-use Rattle.error.specs.declared.Refusal.{Refusal}
+use Rattle.paper.specs.Mend.{LaidApart, FirstMisplaced, Mended, apartVerdict, changed, wholeOf, Mending, mended, mend}
+use Rattle.error.specs.declared.Refusal.the-variants.{OverlappingRegions}
+use Rattle.repair.proofs.OneAnswer.{one-mend}
 use Rattle.scan.specs.Answers.{asScan}
+use Rattle.scan.specs.declared.Scan.{Scan}
+use Rattle.scan.proofs.OneAnswer.{one-scan}
 use Rattle.writer.specs.Answers.{asPlan}
 use Rattle.writer.specs.declared.plan.Row.{Row}
 use Rattle.writer.specs.declared.room.WriteResult.the-variants.{Written}
-use Rattle.writer.specs.declared.room.WriteResult.the-variants as write
 use Rattle.repair.specs.Answers.{asMended, leftBy}
 use Rattle.repair.specs.declared.mending.Mending as answer
 use Rattle.repair.specs.declared.mending.MendResult.{MendResult}
-use Rattle.repair.specs.declared.mending.MendResult.the-variants.{Mended, Refused}
+use Rattle.repair.specs.declared.mending.MendResult.the-variants as mend-says
 use Rattle.demands.specs.Damage.{Protected, Damaged, Touched, Lost, uncorrected, ReadsBack}
-use Rattle.demands.specs.Runs.{Writes, MendsTo, Scrubs}
+use Rattle.demands.specs.ScrubSteps.{Changes}
+use Rattle.demands.specs.Runs.{Writes, MendsTo, ScrubsTo, Prints}
 use Rattle.demands.proofs.Demands as demands
 use Rattle.demands.proofs.RunLaw as run
 
@@ -43,7 +46,7 @@ module _ (rows : List Row) (payload out : List ℕ) (n : ℕ) (after : List ℕ)
       (demands.restores (asPlan rows) payload (length out) (take n after) d (run.written rows payload out n after wrote) bytes damage)
 
   -- The command writes the writer's exact bytes, and says how many differed.
-  pub command-restores : (d buffer : List ℕ) → Damaged 1 (take n after) d → length (take n after) ≤ 65536 → (r : Printed) (y line : List ℕ) → Scrubs d buffer r y line
+  pub command-restores : (d buffer : List ℕ) → Damaged 1 (take n after) d → length (take n after) ≤ 65536 → (r : Printed) (y line : List ℕ) → Prints d buffer r y line
       → (take (r .image) y ≡ take n after) × (line ≡ sets buffer 0 (storedLine (changed d (take n after))))
   command-restores d buffer damage short r y line scrubs =
       let o = demands.command-restores (asPlan rows) payload (length out) (take n after) d (run.written rows payload out n after wrote) bytes damage short in
@@ -77,13 +80,33 @@ module _ (rows : List Row) (payload out : List ℕ) (n : ℕ) (after : List ℕ)
   pub written-reads-back : ReadsBack (asPlan rows) payload (take n after)
   written-reads-back = demands.written-reads-back (asPlan rows) payload (length out) (take n after) (run.written rows payload out n after wrote) bytes
 
+-- ---- mend of any x: it refuses with 12 exactly if parse accepts and the image isn't laid apart, and names the first misplaced entry
+
+pub mend-refuses-exactly : (x : List ℕ) (r : MendResult) (y : List ℕ) → MendsTo x r y
+    → ((i : ℕ) → r ≡ mend-says.Refused (OverlappingRegions i)
+      → (parse x ≡ accepted (headerOf x)) × (LaidApart (count x) (directory x) → ⊥) × FirstMisplaced (count x) (directory x) i)
+    × (parse x ≡ accepted (headerOf x) → (LaidApart (count x) (directory x) → ⊥) → (i : ℕ) × (r ≡ mend-says.Refused (OverlappingRegions i)))
+mend-refuses-exactly x r y u =
+    let d = demands.mend-refuses-exactly x in (
+      λ i e. d .1 i (sym (u .answer) ∙ ap (λ (z : MendResult). asMended z y) e),
+      λ p n. let o = d .2 p n in (o .0, one-mend r (mend-says.Refused (OverlappingRegions (o .0))) y y (u .answer ∙ o .1)),
+    )
+
 -- ---- mend of any x answered m and left y
 
-module _ (x : List ℕ) (bytes : Bytes x) (m : answer.Mending) (y : List ℕ) (mends : MendsTo x (Mended m) y) where
+module _ (x : List ℕ) (bytes : Bytes x) (m : answer.Mending) (y : List ℕ) (mends : MendsTo x (mend-says.Mended m) y) where
   -- Mending again leaves the same bytes, corrects nothing and stores nothing.
   pub settles : (r : MendResult) (z : List ℕ) → MendsTo y r z → (z ≡ y) × (asMended r z ≡ mended y (uncorrected (asScan (m .report))) 0 (m .whole))
   settles r z again =
       run.mends-to y r z _ again (demands.settles x y (asScan (m .report)) (m .stored) (m .whole) bytes (run.mended x m y mends))
+
+  -- What is left meets the rule, and nothing else does; the answer is scrub's report, the number of bytes that changed, and whether all is whole.
+  pub mend-is-the-rule : Mended x y
+      × ((z : List ℕ) → Mended x z → z ≡ y)
+      × (scrub x .report ≡ asScan (m .report))
+      × (changed x y ≡ m .stored)
+      × (wholeOf (asScan (m .report)) ≡ m .whole)
+  mend-is-the-rule = demands.mend-is-the-rule x y (asScan (m .report)) (m .stored) (m .whole) bytes (run.mended x m y mends)
 
   -- A byte that changed was outvoted, or the parity says that it holds the one flipped bit of its word.
   pub touches-nothing-else : (length y ≡ length x) × ((p : ℕ) → (at y p ≡ at x p → ⊥) → Touched x p)
@@ -92,24 +115,31 @@ module _ (x : List ℕ) (bytes : Bytes x) (m : answer.Mending) (y : List ℕ) (m
   -- What is left passes a fresh check.
   pub fresh-check : (parse y ≡ accepted (record { regions = count x; prologueDisagreed = false; directoryDisagreed = false }))
       × (scrubWanted y ≡ false)
+      × (header y ≡ header x)
       × (directory y ≡ directory x)
       × (apartVerdict (count y) 0 [] (directory y) ≡ fine)
       × (scan y ≡ uncorrected (asScan (m .report)))
-  fresh-check =
-      let o = demands.fresh-check x y (asScan (m .report)) (m .stored) (m .whole) bytes (run.mended x m y mends) in
-      (o .0, o .1, o .3, o .4, o .5)
+  fresh-check = demands.fresh-check x y (asScan (m .report)) (m .stored) (m .whole) bytes (run.mended x m y mends)
 
-  -- Scrub's report is mend's, and its bytes outside header and check bytes.
-  pub scrub-agrees : (scrub x .report ≡ asScan (m .report))
-      × ((p : ℕ) → headerLength (count x) ≤ p → ((q c : ℕ) → Protected x q c → c ≡ p → ⊥) → at (scrub x .image) p ≡ at y p)
-  scrub-agrees =
+  -- A scrub of the same image answers mend's report. Its bytes are mend's outside header and check bytes, and as given there.
+  pub scrub-agrees : (r : Scan) (z : List ℕ) → ScrubsTo x r z
+      → (r ≡ m .report)
+      × (length z ≡ length y)
+      × ((p : ℕ) → headerLength (count x) ≤ p → ((q c : ℕ) → Protected x q c → c ≡ p → ⊥) → at z p ≡ at y p)
+      × ((p : ℕ) → p < headerLength (count x) → at z p ≡ at x p)
+      × ((q c : ℕ) → Protected x q c → at z c ≡ at x c)
+  scrub-agrees r z scrubs =
       let o = demands.scrub-agrees x y (asScan (m .report)) (m .stored) (m .whole) bytes (run.mended x m y mends) in
-      (o .0, o .2)
+      let e = scrubs .leaves in (
+        one-scan r (m .report) (scrubs .answer ∙ o .0),
+        ap length e ∙ o .1,
+        λ p l n. ap (λ (v : List ℕ). at v p) e ∙ o .2 p l n,
+        λ p l. ap (λ (v : List ℕ). at v p) e ∙ o .3 p l,
+        λ q c i. ap (λ (v : List ℕ). at v c) e ∙ o .4 q c i,
+      )
 
--- ---- a refusal leaves every byte
+-- ---- scrub of any x answered r and left y
 
-pub refused-mend : (x : List ℕ) (r : Refusal) (y : List ℕ) → MendsTo x (Refused r) y → y ≡ x
-refused-mend = run.mend-refused
-
-pub refused-plan : (rows : List Row) (payload out : List ℕ) (r : Refusal) (after : List ℕ) → Writes rows payload out (write.Refused r) after → after ≡ out
-refused-plan = run.plan-refused
+-- A byte that changed lay, at that moment, in a word of a protected region, and the word's syndrome was the column of the data bit that it holds.
+pub scrub-touches : (x : List ℕ) → Bytes x → (r : Scan) (y : List ℕ) → ScrubsTo x r y → (b : ℕ) → (at y b ≡ at x b → ⊥) → Changes x b
+scrub-touches x bytes r y scrubs b n = demands.scrub-touches x bytes b (λ e. n (ap (λ (v : List ℕ). at v b) (scrubs .leaves) ∙ e))

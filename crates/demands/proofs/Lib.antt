@@ -8,5 +8,7 @@ pub mod Settles
 pub mod Touches
 pub mod ReadsBack
 pub mod Sample
+pub mod Refuses
+pub mod ScrubTouches
 pub mod RunLaw
 pub mod Functions

@@ -1,37 +1,68 @@
 -- What a run says of the definitions. Assumes nothing.
-use mathlib.Core.Path.{_≡_, refl, sym, ap, ap₂, _∙_}
+use mathlib.Core.Path.{_≡_, refl, sym, ap, ap₂, _∙_, subst}
 use mathlib.Core.List.{List, [], _∷_, _++_}
+use mathlib.Core.Logic.{_⊎_}
+use mathlib.Core.Option.{none}
 use Prim.Native.Nat.{ℕ}
 use native.Mathlib.Omega.{arith}
 use denote.Ref.{now}
 use contract.Lifetimes.{Lfts}
+use base.Logic.{emp}
+use denote.Triple.Clauses.{AtExit}
+use borrow.Fn.Claims.{AllOf}
+use borrow.Fn.Read.{all-models, no-know, r-last}
+use borrow.Fn.World.{World, ArgsD, ResD}
+use Rattle.writer.proofs.write as write-fn
 use lib.ListN.{length, take, drop}
 use lib.Seq.{take-append-seam}
 use Rattle.laws.specs.Steps.{over}
+use Rattle.paper.specs.Parse.{parse, refused}
+use Rattle.paper.specs.Scan.{Report}
+use Rattle.paper.specs.Scrub as scrubs
 use Rattle.paper.specs.Mend as paper
 use Rattle.paper.specs.Writer as plan
 use Rattle.error.specs.Refused.{numberOf, detailOf}
 use Rattle.error.specs.declared.Refusal.{Refusal}
 use Rattle.scan.specs.Answers.{asScan}
-use Rattle.writer.specs.Answers.{asRow, asPlan, asWritten, answerOf, bytesAfter, wrote, refused}
+use Rattle.scan.specs.declared.Scan.{Scan}
+use Rattle.scan.specs.declared.Scan.the-variants as scan-says
+use Rattle.scan.proofs.OneAnswer.{one-scan}
+use Rattle.writer.specs.Answers.{asRow, asPlan, asWritten, answerOf, bytesAfter, wrote}
+use Rattle.writer.specs.Answers as plan-answer
 use Rattle.writer.specs.declared.plan.Row.{Row}
 use Rattle.writer.specs.declared.room.WriteResult.{WriteResult}
 use Rattle.writer.specs.declared.room.WriteResult.the-variants.{Written}
 use Rattle.writer.specs.declared.room.WriteResult.the-variants as write
-use Rattle.repair.proofs.mend.Reads as function
+use Rattle.repair.proofs.mend.Reads as mend
+use Rattle.repair.proofs.scrub.Reads as scrub
 use Rattle.repair.specs.Answers.{asMended, leftBy}
 use Rattle.repair.specs.declared.mending.MendResult.{MendResult}
 use Rattle.repair.specs.declared.mending.MendResult.the-variants.{Mended, Refused}
 use Rattle.repair.specs.declared.mending.Mending.{Mending}
 use Rattle.lines.proofs.scrub.Reads as command
-use Rattle.demands.specs.Runs.{Writes, MendsTo, Scrubs}
+use Rattle.demands.proofs.ScrubTouches as steps
+use Rattle.demands.specs.Runs.{Writes, MendsTo, ScrubsTo, Prints}
 
--- what the function's proof gives its callers is what `MendsTo` says
-pub mend-promised : (κs : Lfts 1) (a : _) (r : _) (ws : _) → function.Learnt κs a r ws → MendsTo (now (a .0)) r (now (ws .0))
+-- ---- a run is what the function's own contract gives its callers
+
+pub mend-promised : (κs : Lfts 1) (a : _) (r : _) (ws : _) → mend.Learnt κs a r ws → MendsTo (now (a .0)) r (now (ws .0))
 mend-promised κs a r ws p = record { answer = p .0; leaves = p .1 }
 
-pub scrub-promised : (κs : Lfts 2) (a : _) (r : _) (ws : _) → command.Learnt κs a r ws → Scrubs (now (a .0)) (now (a .1 .0)) r (now (ws .0)) (now (ws .1 .0))
-scrub-promised κs a r ws p = record { written = p .1 .1 .1 .0 .1; said = p .1 .0 }
+pub scrub-promised : (κs : Lfts 1) (a : _) (r : _) (ws : _) → scrub.Learnt κs a r ws → ScrubsTo (now (a .0)) r (now (ws .0))
+scrub-promised κs a r ws p = record { answer = p .0; leaves = p .1 }
+
+pub command-promised : (κs : Lfts 2) (a : _) (r : _) (ws : _) → command.Learnt κs a r ws → Prints (now (a .0)) (now (a .1 .0)) r (now (ws .0)) (now (ws .1 .0))
+command-promised κs a r ws p = record { written = p .1 .1 .1 .0 .1; said = p .1 .0 }
+
+-- `write` is proved by hand, so no module of readings is made of it: this is the toolchain's reading of its own clauses
+abbrev pub Learnt-write : (κs : Lfts 3) → ArgsD write-fn.signature κs → ResD write-fn.signature κs → AtExit write-fn.ended κs → Type 0
+Learnt-write κs a r e =
+    AllOf
+    (all-models {Base = λ w. emp (w .𝓤)} {Know = no-know} (λ w. write-fn.clauses (w .𝓤) (w .H) (w .𝓖 .A) (w .𝓜 .mem) (w .𝓡 .run) κs a .ensures tt r e) (λ w. r-last _)
+    (λ w. refl) (λ w. refl) (λ w. refl) .tells)
+
+pub write-promised : (κs : Lfts 3) (a : _) (r : _) (e : _) → Learnt-write κs a r e → Writes (now (a .0)) (now (a .1 .0)) (now (a .1 .1 .0)) r (now (e .1 .1 .0))
+write-promised κs a r e p = record { answer = p .0; leaves = p .1 }
 
 -- ---- the writer wrote n bytes
 
@@ -73,9 +104,20 @@ refused-as (paper.mended z r n w) k d x e = let f : _≡_ {A = ℕ} 0 1 = cc in 
 pub mend-refused : (x : List ℕ) (r : Refusal) (y : List ℕ) → MendsTo x (Refused r) y → y ≡ x
 mend-refused x r y u = u .leaves ∙ refused-as (paper.mend x) (numberOf r) (detailOf r) x (u .answer)
 
-plan-as : (w : plan.Written) (k d : ℕ) (out : List ℕ) → refused k d ≡ answerOf w → bytesAfter w out ≡ out
+plan-as : (w : plan.Written) (k d : ℕ) (out : List ℕ) → plan-answer.refused k d ≡ answerOf w → bytesAfter w out ≡ out
 plan-as (plan.refusedPlan k′ d′) k d out e = refl
 plan-as (plan.image x) k d out e = let f : _≡_ {A = ℕ} 0 1 = cc in absurd (omega arith)
 
 pub plan-refused : (rows : List Row) (payload out : List ℕ) (r : Refusal) (after : List ℕ) → Writes rows payload out (write.Refused r) after → after ≡ out
 plan-refused rows payload out r after u = u .leaves ∙ plan-as (plan.write (asPlan rows) payload (length out)) (numberOf r) (detailOf r) out (u .answer)
+
+-- ---- scrub says nothing
+
+pub scrub-refused : (x : List ℕ) (n d : ℕ) → parse x ≡ refused n d → (r : Scan) (y : List ℕ) → ScrubsTo x r y → (r ≡ scan-says.Nothing) × (y ≡ x)
+scrub-refused x n d e r y u =
+    let s = steps.refused-scrub x n d e in
+    (one-scan r scan-says.Nothing (u .answer ∙ ap (λ (z : scrubs.Scrubbed). z .report) s), u .leaves ∙ ap (λ (z : scrubs.Scrubbed). z .image) s)
+
+pub scrub-says-nothing : (x y : List ℕ) → ScrubsTo x scan-says.Nothing y → (y ≡ x) ⊎ ((n : ℕ) × (d : ℕ) × (parse y ≡ refused n d))
+scrub-says-nothing x y u =
+    subst (λ (z : List ℕ). (z ≡ x) ⊎ ((n : ℕ) × (d : ℕ) × (parse z ≡ refused n d))) (sym (u .leaves)) (steps.nothing-said x (sym (u .answer)))

@@ -7,7 +7,7 @@ use native.Mathlib.Nat.{not-suc-le-zero, mod-lt}
 use native.Mathlib.Decide.{decLt, ℕ-discrete}
 use native.Mathlib.Omega.{arith}
 use borrow.Author.Tests.{lt-ltb, le-ltb}
-use lib.Dec.{lit<}
+use lib.Dec.{ltb, lit<}
 use lib.Bits.{bitXor}
 use Rattle.bits.specs.Bit.{bit}
 use Rattle.bits.specs.Vote.{most}
@@ -127,9 +127,25 @@ module _ (x y : List ℕ) (base k : ℕ) (bx : Bytes x) (c : Copies y base k (vo
 -- ---- the words
 
 -- the word's class says which of its bytes mend changes
-column-of : (w c i : ℕ) → decode w c ≡ flipped i → Column (syndrome w c) i
+pub column-of : (w c i : ℕ) → decode w c ≡ flipped i → Column (syndrome w c) i
 unfolding decode
 column-of w c i d = flipped-column (syndrome w c) i d
+
+-- a word with bit i flipped differs in the byte of that bit alone, and nowhere if i is a check bit
+pub flipped-byte : (x y : List ℕ) (q i p : ℕ) → Bytes x → Bytes y → wordAt y q ≡ flipWord i (wordAt x q) → q ≡ p / 8 → (at y p ≡ at x p → ⊥)
+    → (i < 64) × (p ≡ 8 * q + i / 8)
+unfolding flipWord
+flipped-byte x y q i p bx by h e n = go (decLt i 64) (ℕ-discrete (p % 8) (i / 8))
+  where
+    flip : (t : Bool) → ltb i 64 ≡ t → wordAt y q ≡ cond t (bitXor (wordAt x q) (2 ^ i)) (wordAt x q)
+    flip t g = h ∙ ap (λ (u : Bool). cond u (bitXor (wordAt x q) (2 ^ i)) (wordAt x q)) g
+
+    go : Dec (i < 64) → Dec (p % 8 ≡ i / 8) → (i < 64) × (p ≡ 8 * q + i / 8)
+    go (yes l) (yes g) = (l, omega arith)
+    go (yes l) (no g) =
+        let u : 8 * q + p % 8 ≡ p = omega arith in
+        absurd (n (subst (λ (k : ℕ). at y k ≡ at x k) u (byte-apart 8 i x y (8 * q) bx by (flip true (lt-ltb i 64 l)) (p % 8) (mod-lt p (lit< tt)) g)))
+    go (no l) g = absurd (n (same-in-word y x q p by bx (flip false (le-ltb i 64 (omega arith))) e))
 
 data Kept (x y : List ℕ) (p : ℕ) : Type 0 where
   kept : at y p ≡ at x p → Kept x y p
@@ -141,25 +157,16 @@ module _ (x y : List ℕ) (bx : Bytes x) (m : Mended x y) (q c : ℕ) (there : A
 
   -- a byte of the word
   in-word : (p : ℕ) → q ≡ p / 8 → Kept x y p
-  unfolding fixedWord flipWord
-  in-word p e = go (decode (wordAt x q) (at x c)) refl (m .words q c there)
+  unfolding fixedWord
+  in-word p e = go (decode (wordAt x q) (at x c)) refl (m .words q c there) (ℕ-discrete (at y p) (at x p))
     where
-      here : (i : ℕ) → 8 * q + i / 8 ≡ p → OneColumn x q c i → i < 64 → Touched x p
-      here i g o l = subst (Touched x) g (Touched.inWord q c i o l)
-
-      bit-at : (i : ℕ) → decode (wordAt x q) (at x c) ≡ flipped i → Dec (i < 64) → Dec (p % 8 ≡ i / 8) → wordAt y q ≡ flipWord i (wordAt x q) → Kept x y p
-      bit-at i d (yes l) (yes g) h = touched (here i (omega arith) (one-column i d) l)
-      bit-at i d (yes l) (no n) h =
-          let s : wordAt y q ≡ bitXor (wordAt x q) (2 ^ i) = h ∙ ap (λ (t : Bool). cond t (bitXor (wordAt x q) (2 ^ i)) (wordAt x q)) (lt-ltb i 64 l) in
-          let u : 8 * q + p % 8 ≡ p = omega arith in
-          kept (subst (λ (k : ℕ). at y k ≡ at x k) u (byte-apart 8 i x y (8 * q) bx (m .bytes) s (p % 8) (mod-lt p (lit< tt)) n))
-      bit-at i d (no l) g h =
-          kept (same-in-word y x q p (m .bytes) bx (h ∙ ap (λ (t : Bool). cond t (bitXor (wordAt x q) (2 ^ i)) (wordAt x q)) (le-ltb i 64 (omega arith))) e)
-
-      go : (r : Class) → decode (wordAt x q) (at x c) ≡ r → wordAt y q ≡ wordAfter r (wordAt x q) → Kept x y p
-      go clean d h = kept (same-in-word y x q p (m .bytes) bx h e)
-      go (flipped i) d h = bit-at i d (decLt i 64) (ℕ-discrete (p % 8) (i / 8)) h
-      go beyond d h = kept (same-in-word y x q p (m .bytes) bx h e)
+      go : (r : Class) → decode (wordAt x q) (at x c) ≡ r → wordAt y q ≡ wordAfter r (wordAt x q) → Dec (at y p ≡ at x p) → Kept x y p
+      go r d h (yes k) = kept k
+      go clean d h (no n) = kept (same-in-word y x q p (m .bytes) bx h e)
+      go (flipped i) d h (no n) =
+          let f = flipped-byte x y q i p bx (m .bytes) h e n in
+          touched (subst (Touched x) (sym (f .1)) (Touched.inWord q c i (one-column i d) (f .0)))
+      go beyond d h (no n) = kept (same-in-word y x q p (m .bytes) bx h e)
 
   -- the check byte
   at-check : Kept x y c

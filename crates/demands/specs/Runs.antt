@@ -1,15 +1,19 @@
--- A run of a function, as its promise tells it: what it was lent, its answer, and what it left. (FORMAT 9, 10, 11)
+-- A run of a function, as its promise tells it: what it was lent, its answer, and what it left. (FORMAT 8 to 11)
+-- That each is what the function's own contract gives its callers is proved in proofs/RunLaw.antt.
 use mathlib.Core.Path.{_≡_}
 use mathlib.Core.List.{List}
 use Prim.Native.Nat.{ℕ}
 use lib.ListN.{length, take}
 use lib.Seq.{sets}
 use Rattle.paper.specs.Mend.{mend}
+use Rattle.paper.specs.Scrub.{scrub}
 use Rattle.paper.specs.Writer.{write}
 use Rattle.paper.specs.Programs.{scrubImage, scrubLine}
 use Rattle.writer.specs.Answers.{asPlan, asWritten, answerOf, bytesAfter}
 use Rattle.writer.specs.declared.plan.Row.{Row}
 use Rattle.writer.specs.declared.room.WriteResult.{WriteResult}
+use Rattle.scan.specs.Answers.{asScan}
+use Rattle.scan.specs.declared.Scan.{Scan}
 use Rattle.repair.specs.Answers.{asMended, leftBy}
 use Rattle.repair.specs.declared.mending.MendResult.{MendResult}
 use Rattle.lines.specs.declared.Printed.{Printed}
@@ -24,7 +28,12 @@ pub record MendsTo (x : List ℕ) (r : MendResult) (y : List ℕ) : Type 0 where
   pub answer : asMended r y ≡ mend x
   pub leaves : y ≡ leftBy (mend x) x
 
+-- repair::scrub of x: it answered r and left y
+pub record ScrubsTo (x : List ℕ) (r : Scan) (y : List ℕ) : Type 0 where
+  pub answer : asScan r ≡ scrub x .report
+  pub leaves : y ≡ scrub x .image
+
 -- lines::scrub of x, with a buffer for its line, as the command calls it: it answered r and left y and `line`
-pub record Scrubs (x buffer : List ℕ) (r : Printed) (y line : List ℕ) : Type 0 where
+pub record Prints (x buffer : List ℕ) (r : Printed) (y line : List ℕ) : Type 0 where
   pub written : take (r .image) y ≡ scrubImage x
   pub said : line ≡ sets buffer 0 (scrubLine x)

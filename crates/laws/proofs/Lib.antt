@@ -7,6 +7,7 @@ pub mod CodeLaw
 pub mod Fold
 pub mod Apart
 pub mod MendLaw
+pub mod MisplacedLaw
 pub mod HeaderHalf
 pub mod StoredLaw
 pub mod ScrubLaw

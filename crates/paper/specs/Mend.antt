@@ -1,4 +1,4 @@
--- Laid apart, and mend. (FORMAT 10)
+-- Laid apart, and mend: first the rules as the document states them, then the procedures that meet them. (FORMAT 10)
 use mathlib.Core.Path.{_≡_}
 use mathlib.Core.Bool.{Bool, true, false, not, _&&_, _||_, cond}
 use mathlib.Core.List.{List, [], _∷_, _++_}
@@ -9,12 +9,56 @@ use lib.ListN.{length, drop, set}
 use lib.Seq.{sets}
 use Rattle.paper.specs.Bytes.{at, wordAt, le, Bytes}
 use Rattle.paper.specs.Refusals.{overlappingRegions, Verdict, fine, refuse, _then_, refuseIf}
-use Rattle.paper.specs.Layout.{count, headerLength, header, directory, Entry, start}
+use Rattle.paper.specs.Layout.{count, headerLength, header, directory, Entry, start, end}
+use Rattle.paper.specs.Views.{nth}
 use Rattle.paper.specs.Parse.{parseVerdict}
 use Rattle.paper.specs.Parity.{Class, clean, flipped, beyond, flipWord, checkOf, fixedWord, fixedCheck}
 use Rattle.paper.specs.Scan.{Pair, Among, examined, classAt, Report, scan}
 
--- ---- laid apart
+-- ---- the rule: laid apart
+
+-- byte b is one of the region's
+abbrev pub InRegion : Entry → ℕ → Type 0
+InRegion e b = (start e ≤ b) × (b < end e)
+
+-- of a directory es of n entries
+pub record LaidApart (n : ℕ) (es : List Entry) : Type 0 where
+  -- no non-empty region starts inside the header
+  pub behind : (i : ℕ) (e : Entry) → nth i es ≡ some e → 0 < e .words → headerLength n ≤ start e
+  -- no two non-empty regions share a byte (an empty one has none)
+  pub apart : (i j : ℕ) → i < j → (e f : Entry) → nth i es ≡ some e → nth j es ≡ some f → (b : ℕ) → InRegion e b → InRegion f b → ⊥
+
+-- entry i is non-empty, and starts inside the header or shares a byte with an earlier non-empty entry
+pub data Misplaced (n : ℕ) (es : List Entry) (i : ℕ) : Type 0 where
+  onHeader : (e : Entry) → nth i es ≡ some e → 0 < e .words → start e < headerLength n → Misplaced n es i
+  onEarlier : (j : ℕ) → j < i → (e f : Entry) → nth i es ≡ some e → nth j es ≡ some f → (b : ℕ) → InRegion e b → InRegion f b → Misplaced n es i
+
+-- no earlier entry is
+pub record FirstMisplaced (n : ℕ) (es : List Entry) (i : ℕ) : Type 0 where
+  pub here : Misplaced n es i
+  pub first : (j : ℕ) → j < i → Misplaced n es j → ⊥
+
+-- ---- the rule: what mend leaves. y is x mended, for an image x that parses and is laid apart
+
+-- p is neither in the header, nor in an examined word, nor an examined word's check byte
+pub record Elsewhere (x : List ℕ) (p : ℕ) : Type 0 where
+  pub past : headerLength (count x) ≤ p
+  pub noWord : (q c : ℕ) → Among q c (examined x) → q ≡ p / 8 → ⊥
+  pub noCheck : (q c : ℕ) → Among q c (examined x) → c ≡ p → ⊥
+
+pub record Mended (x y : List ℕ) : Type 0 where
+  pub size : length y ≡ length x
+  pub bytes : Bytes y
+  -- all header copies become the vote
+  pub copies : (p : ℕ) → p < headerLength (count x) → at y p ≡ at (header x) p
+  -- each examined word becomes as scrub makes it
+  pub words : (q c : ℕ) → Among q c (examined x) → wordAt y q ≡ fixedWord (wordAt x q) (at x c)
+  -- its check byte matches if the word was corrected, and is kept if not
+  pub checks : (q c : ℕ) → Among q c (examined x) → at y c ≡ fixedCheck (wordAt x q) (at x c)
+  -- nothing else moves
+  pub others : (p : ℕ) → Elsewhere x p → at y p ≡ at x p
+
+-- ---- the procedure: refusals, in mend's order (`mend-refuses-exactly` in the crate demands: they are the rule's)
 
 -- two non-empty regions share a byte
 unfoldable pub meets : Entry → Entry → Bool
@@ -38,27 +82,7 @@ apartVerdict n i earlier (e ∷ es) =
 unfoldable pub mendVerdict : List ℕ → Verdict
 mendVerdict x = parseVerdict x then apartVerdict (count x) 0 [] (directory x)
 
--- ---- what mend leaves: y is x mended
-
--- p is neither in the header, nor in an examined word, nor an examined word's check byte
-pub record Elsewhere (x : List ℕ) (p : ℕ) : Type 0 where
-  pub past : headerLength (count x) ≤ p
-  pub noWord : (q c : ℕ) → Among q c (examined x) → q ≡ p / 8 → ⊥
-  pub noCheck : (q c : ℕ) → Among q c (examined x) → c ≡ p → ⊥
-
-pub record Mended (x y : List ℕ) : Type 0 where
-  pub size : length y ≡ length x
-  pub bytes : Bytes y
-  -- all header copies become the vote
-  pub copies : (p : ℕ) → p < headerLength (count x) → at y p ≡ at (header x) p
-  -- each examined word becomes as scrub makes it
-  pub words : (q c : ℕ) → Among q c (examined x) → wordAt y q ≡ fixedWord (wordAt x q) (at x c)
-  -- its check byte matches if the word was corrected, and is kept if not
-  pub checks : (q c : ℕ) → Among q c (examined x) → at y c ≡ fixedCheck (wordAt x q) (at x c)
-  -- nothing else moves
-  pub others : (p : ℕ) → Elsewhere x p → at y p ≡ at x p
-
--- ---- the same as a procedure: one examined word after the other
+-- ---- the procedure: one examined word after the other (`mend-is-the-rule` there: it leaves what the rule says, and nothing else meets the rule)
 
 -- a corrected word is written with its check byte
 abbrev pub storedPair : Class → Pair → List ℕ → List ℕ
