@@ -20,6 +20,22 @@
 #include "../include/kw.h"
 #include "kw_test.h"
 
+/* What the header names, as FORMAT 2, 3 and 9 have it: a recorded answer is a number without a name. */
+_Static_assert(KW_TRUNCATED == 1 && KW_BAD_MAGIC == 2 && KW_FOREIGN_ENDIAN == 3 &&
+                   KW_UNSUPPORTED_VERSION == 4 && KW_BAD_PROLOGUE_CHECKSUM == 5 &&
+                   KW_TOO_MANY_REGIONS == 6 && KW_REGION_OUT_OF_BOUNDS == 7 &&
+                   KW_DUPLICATE_REGION == 8 && KW_BAD_RECORD_STRIDE == 9 && KW_OVERFLOW == 10 &&
+                   KW_TOO_LARGE == 11 && KW_OVERLAPPING_REGIONS == 12 && KW_NO_ROOM == 13 &&
+                   KW_BAD_PLAN == 14 && KW_OK == 0,
+               "refusals");
+_Static_assert(KW_FLAG_ENCRYPTED == 1 && KW_FLAG_PROTECTED == 2 && KW_FLAG_OPTIONAL == 4 &&
+                   KW_FLAG_PLANE == 8,
+               "flags");
+_Static_assert(KW_VERSION == 2 && KW_WORD_BYTES == 8 && KW_MAX_REGIONS == 1024 &&
+                   KW_HEADER_BYTES(KW_MAX_REGIONS) == 49200 && KW_MAX_HEADER_BYTES == 49200 &&
+                   KW_MAX_IMAGE_BYTES == 8388608,
+               "limits");
+
 enum { MOST_SLICES = 2, MOST_NUMBERS = 8, MOST_BYTES = 8, LONGEST_BYTES = 1 << 24, SHOWN = 10 };
 enum { MOST_TOLD = 1024, LONGEST_ANSWER = 4096 };
 
