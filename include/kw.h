@@ -79,9 +79,11 @@ uint32_t kw_parse(const uint8_t *image, size_t len, uint64_t answer[2]);
 uint32_t kw_scan(const uint8_t *image, size_t len, uint64_t answer[4]);
 
 /* Repairs the words that one flipped bit explains, in place, and nothing else: no check byte, no
-   header copy. Always returns 0, and answers {1, words, corrected, uncorrectable}, or zeros: where no
-   word was looked at, where the image doesn't parse, and where a repair in a region that lies on the
-   header spoiled it. In that last case alone the bytes written before stay.
+   header copy. Always returns 0, never a detail, and answers {1, words, corrected, uncorrectable}, or
+   zeros: where no protected region has a plane, where the image doesn't parse, and where a repair in a
+   region that lies on the header spoiled it. In that last case alone the bytes written before stay. A
+   protected region that has no words but a plane counts as one that was looked at: where there is no
+   other, the answer is {1, 0, 0, 0}.
 
    A repair changes what was checked before. Three flipped bits can pass for one. Parse the image
    afresh after a repair, and have whatever approved it approve it again, before anything in it is

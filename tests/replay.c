@@ -1,13 +1,17 @@
-/* Replays recorded answers, of the Rust and for mend of our own reading, against libkw_test.a and libkw.a.
+/* Replays recorded answers, of the Rust and for mend and the writer of our own readings of document 01,
+   against libkw_test.a and libkw.a.
 
    usage: replay FILE...
 
    A line is `function arguments -> answer`; lines that start with '#' are comments. Numbers are
    decimal. Bytes are hex, `-` for none, `00*600` for some repeated, `#1024` for directory entries of
-   the kinds 0 to 1023 that are 0 otherwise, joined by `+`. Where bytes are lent to be written, the
-   answer ends with those that moved, as `PLACE=VALUE,...` or `-`. Prints
-   `replayed N lines, M different`; exit status 1 if a line differs or isn't understood, or if a file
-   has no line. A new function is one row of `rows` and the one-line call that the row names. */
+   the kinds 0 to 1023 that are 0 otherwise, `~160` for 160 bytes of a pattern (`part_byte`), joined by
+   `+`. A plan's row is `KIND.FLAGS.WORDS`, with `*9` nine such of ascending kinds, joined by `+`, or `-`
+   for none. Where an image is lent to be written, the answer ends with the bytes that moved, as
+   `PLACE=VALUE,...` or `-`. Where an output is, it ends with all of its bytes, or `=` if each is as it
+   was, or where they are more than MOST_TOLD the checksums of the image and of what lies behind it. Prints
+   `replayed N lines, M different`; exit status 1 if a line differs or isn't understood, or if a
+   file has no line. A new function is one row of `rows` and the one-line call that the row names. */
 #define _POSIX_C_SOURCE 200809L
 #include <inttypes.h>
 #include <stdio.h>
@@ -16,8 +20,24 @@
 #include "../include/kw.h"
 #include "kw_test.h"
 
+/* What the header names, as FORMAT 2, 3 and 9 have it: a recorded answer is a number without a name. */
+_Static_assert(KW_TRUNCATED == 1 && KW_BAD_MAGIC == 2 && KW_FOREIGN_ENDIAN == 3 &&
+                   KW_UNSUPPORTED_VERSION == 4 && KW_BAD_PROLOGUE_CHECKSUM == 5 &&
+                   KW_TOO_MANY_REGIONS == 6 && KW_REGION_OUT_OF_BOUNDS == 7 &&
+                   KW_DUPLICATE_REGION == 8 && KW_BAD_RECORD_STRIDE == 9 && KW_OVERFLOW == 10 &&
+                   KW_TOO_LARGE == 11 && KW_OVERLAPPING_REGIONS == 12 && KW_NO_ROOM == 13 &&
+                   KW_BAD_PLAN == 14 && KW_OK == 0,
+               "refusals");
+_Static_assert(KW_FLAG_ENCRYPTED == 1 && KW_FLAG_PROTECTED == 2 && KW_FLAG_OPTIONAL == 4 &&
+                   KW_FLAG_PLANE == 8,
+               "flags");
+_Static_assert(KW_VERSION == 2 && KW_WORD_BYTES == 8 && KW_MAX_REGIONS == 1024 &&
+                   KW_HEADER_BYTES(KW_MAX_REGIONS) == 49200 && KW_MAX_HEADER_BYTES == 49200 &&
+                   KW_MAX_IMAGE_BYTES == 8388608,
+               "limits");
+
 enum { MOST_SLICES = 2, MOST_NUMBERS = 8, MOST_BYTES = 8, LONGEST_BYTES = 1 << 24, SHOWN = 10 };
-enum { LONGEST_ANSWER = 4096 };
+enum { MOST_TOLD = 1024, LONGEST_ANSWER = 4096 };
 
 struct slice {
     uint8_t *bytes;
@@ -25,6 +45,8 @@ struct slice {
 };
 
 struct input {
+    kw_row *rows;
+    size_t rows_len;
     struct slice b[MOST_SLICES];
     uint64_t n[MOST_NUMBERS];
 };
@@ -84,6 +106,14 @@ CALL(records_bytes) {
 }
 CALL(record_bytes) { kwt_record_bytes(SLICE(0), in->n[0], in->n[1], out->n); }
 CALL(pool_bytes) { kwt_pool_bytes(SLICE(0), (uint32_t)in->n[0], (uint32_t)in->n[1], out->n); }
+CALL(held_table) { kwt_held_table(SLICE(0), in->n[0], out->n); }
+CALL(held_record) { kwt_held_record(SLICE(0), in->n[0], in->n[1], out->n); }
+CALL(held_forward) {
+    out->n[0] = kwt_held_forward(SLICE(0), in->n[0], in->n[1], (uint32_t)in->n[2],
+                                 (uint32_t)in->n[3]);
+}
+CALL(held_pool) { kwt_held_pool(SLICE(0), (uint32_t)in->n[0], (uint32_t)in->n[1], out->n); }
+CALL(held_plane) { kwt_held_plane(SLICE(0), SLICE(1), in->n[0], out->n); }
 CALL(verify_region) {
     kwt_verify_region(SLICE(0), (uint16_t)in->n[0], (uint16_t)in->n[1], (uint16_t)in->n[2],
                       (uint32_t)in->n[3], (uint32_t)in->n[4], (uint16_t)in->n[5], out->n);
@@ -94,10 +124,12 @@ CALL(kw_parse) { out->n[0] = kw_parse(SLICE(0), out->n + 1); }
 CALL(kw_scan) { out->n[0] = kw_scan(SLICE(0), out->n + 1); }
 CALL(kw_scrub) { out->n[0] = kw_scrub(SLICE(0), out->n + 1); }
 CALL(kw_mend) { out->n[0] = kw_mend(SLICE(0), out->n + 1); }
+CALL(kw_write) { out->n[0] = kw_write(in->rows, in->rows_len, SLICE(0), SLICE(1), out->n + 1); }
 
 struct row {
     const char *name;
-    const char *takes; /* b: bytes; w: bytes to be written; 1, 2, 4, 8: a number of so many bytes */
+    const char *takes; /* b: bytes; w: an image to be written; o: an output, last; r: a plan's rows;
+                          1, 2, 4, 8: a number of so many bytes */
     int numbers;       /* numbers of the answer, or */
     int bytes;         /* bytes of the answer */
     void (*call)(const struct input *, struct output *);
@@ -138,6 +170,11 @@ static const struct row rows[] = {
     {"records_bytes", "b448", 2, 0, call_records_bytes},
     {"record_bytes", "b88", 2, 0, call_record_bytes},
     {"pool_bytes", "b44", 2, 0, call_pool_bytes},
+    {"held_table", "b8", 3, 0, call_held_table},
+    {"held_record", "b88", 5, 0, call_held_record},
+    {"held_forward", "b8844", 1, 0, call_held_forward},
+    {"held_pool", "b44", 7, 0, call_held_pool},
+    {"held_plane", "bb8", 8, 0, call_held_plane},
     {"verify_region", "b222442", 4, 0, call_verify_region},
     {"verify_all", "b2", 4, 0, call_verify_all},
     {"scrub", "w", 4, 0, call_scrub},
@@ -145,6 +182,7 @@ static const struct row rows[] = {
     {"kw_scan", "b", 5, 0, call_kw_scan},
     {"kw_scrub", "w", 5, 0, call_kw_scrub},
     {"kw_mend", "w", 7, 0, call_kw_mend},
+    {"kw_write", "rbo", 2, 0, call_kw_write},
 };
 
 /* Reads a decimal number of at most `width` bytes; 0 if it isn't one. */
@@ -173,29 +211,36 @@ static int read_byte(const char *two, uint8_t *byte) {
     return low >= 0;
 }
 
-/* Writes `#COUNT` or hex, and `*COUNT` times over, to `to` if that isn't NULL. Leaves its length in
-   `len`; 0 if it is neither. */
+/* Byte `at` of a part: of the directory entries `#`, of the pattern `~`, or of hex; 0 if it is no hex.
+   The pattern is never 0, so that a byte that should become 0 shows. */
+static int part_byte(const char *part, size_t at, uint8_t *byte) {
+    if (part[0] == '#')
+        *byte = at % 16 == 0 ? (uint8_t)(at / 16) : at % 16 == 1 ? (uint8_t)(at / 4096) : 0;
+    else if (part[0] == '~')
+        *byte = (uint8_t)(1 + ((uint32_t)at * 2654435761u >> 24) % 255);
+    else
+        return read_byte(part + 2 * at, byte);
+    return 1;
+}
+
+/* Writes `#COUNT`, `~COUNT` or hex, and `*COUNT` times over, to `to` if that isn't NULL. Leaves its
+   length in `len`; 0 if it is none of them. */
 static int read_part(const char *part, uint8_t *to, size_t *len) {
-    uint64_t count = 1, entries = 0;
+    uint64_t count = 1, made = 0;
     size_t plain = strcspn(part, "*");
     if (part[plain] == '*' && !read_number(part + plain + 1, 8, &count)) return 0;
-    if (part[0] == '#') {
-        char digits[8] = "";
+    if (part[0] == '#' || part[0] == '~') {
+        char digits[9] = "";
         if (plain > sizeof digits) return 0;
         memcpy(digits, part + 1, plain - 1);
-        if (!read_number(digits, 2, &entries)) return 0;
+        if (!read_number(digits, 4, &made)) return 0;
     } else if (plain % 2 != 0) {
         return 0;
     }
-    size_t once = part[0] == '#' ? 16 * (size_t)entries : plain / 2;
+    size_t once = part[0] == '#' ? 16 * (size_t)made : part[0] == '~' ? (size_t)made : plain / 2;
     if (count > LONGEST_BYTES || (*len = once * (size_t)count) > LONGEST_BYTES) return 0;
-    for (size_t i = 0; to != NULL && i < *len; i++) {
-        size_t at = i % once;
-        if (part[0] == '#')
-            to[i] = at % 16 == 0 ? (uint8_t)(at / 16) : at % 16 == 1 ? (uint8_t)(at / 4096) : 0;
-        else if (!read_byte(part + 2 * at, &to[i]))
-            return 0;
-    }
+    for (size_t i = 0; to != NULL && i < *len; i++)
+        if (!part_byte(part, i % once, &to[i])) return 0;
     return 1;
 }
 
@@ -217,16 +262,59 @@ static int read_bytes(char *word, struct slice *b) {
     return 1;
 }
 
+/* Ends a word before its first `c`, and gives what follows, or NULL. */
+static char *cut(char *word, char c) {
+    char *at = strchr(word, c);
+    if (at != NULL) *at++ = '\0';
+    return at;
+}
+
+/* Reads `KIND.FLAGS.WORDS` or `KIND.FLAGS.WORDS*COUNT`; 0 if it is neither. */
+static int read_row(char *part, kw_row *row, uint64_t *count) {
+    char *times = cut(part, '*');
+    char *flags = cut(part, '.');
+    char *words = flags == NULL ? NULL : cut(flags, '.');
+    uint64_t n[3];
+    if (words == NULL || !read_number(part, 2, &n[0]) || !read_number(flags, 2, &n[1]) ||
+        !read_number(words, 4, &n[2]))
+        return 0;
+    *row = (kw_row){(uint16_t)n[0], (uint16_t)n[1], (uint32_t)n[2]};
+    *count = 1;
+    return times == NULL || read_number(times, 2, count);
+}
+
+/* Reads `-`, or rows joined by `+`, into fresh memory, exactly as much as they take; 0 if it is neither. */
+static int read_rows(char *word, struct input *in) {
+    if ((in->rows = malloc(sizeof *in->rows)) == NULL) return 0;
+    for (char *part = strcmp(word, "-") == 0 ? NULL : word, *next; part != NULL; part = next) {
+        kw_row row;
+        uint64_t count;
+        next = cut(part, '+');
+        if (!read_row(part, &row, &count) || count == 0) return 0;
+        kw_row *more = realloc(in->rows, (in->rows_len + (size_t)count) * sizeof row);
+        if (more == NULL) return 0;
+        in->rows = more;
+        for (; count > 0; count--, row.kind++) in->rows[in->rows_len++] = row;
+    }
+    return 1;
+}
+
+static int read_argument(char *word, char takes, struct input *in, int *b, int *n) {
+    switch (takes) {
+    case 'r': return read_rows(word, in);
+    case 'b':
+    case 'w':
+    case 'o': return read_bytes(word, &in->b[(*b)++]);
+    default: return read_number(word, takes - '0', &in->n[(*n)++]);
+    }
+}
+
 /* Reads the words of `arguments` as `takes` names them; 0 if there are other words, more or fewer. */
 static int read_input(char *arguments, const char *takes, struct input *in) {
     char *rest = NULL;
     char *word = strtok_r(arguments, " ", &rest);
-    for (int b = 0, n = 0; *takes != '\0'; takes++, word = strtok_r(NULL, " ", &rest)) {
-        if (word == NULL) return 0;
-        if (*takes == 'b' || *takes == 'w' ? !read_bytes(word, &in->b[b++])
-                                           : !read_number(word, *takes - '0', &in->n[n++]))
-            return 0;
-    }
+    for (int b = 0, n = 0; *takes != '\0'; takes++, word = strtok_r(NULL, " ", &rest))
+        if (word == NULL || !read_argument(word, *takes, in, &b, &n)) return 0;
     return word == NULL;
 }
 
@@ -242,12 +330,20 @@ static void added(struct text *text, int len) {
     text->room -= (size_t)len;
 }
 
-/* Writes our answer as the recorded lines have it; `before` has the bytes that were lent. */
-static void answer_text(const struct row *row, const struct output *out, const struct slice *after,
-                        const uint8_t *before, struct text *text) {
-    for (int i = 0; i < row->numbers; i++) ADD(text, "%s%" PRIu64, i > 0 ? " " : "", out->n[i]);
-    for (int i = 0; i < row->bytes; i++) ADD(text, "%02x", out->bytes[i]);
-    if (row->takes[0] != 'w') return;
+/* The CRC-32 of FORMAT 4, by a table of its own: ours is not asked. */
+static uint32_t checksum(const uint8_t *bytes, size_t len) {
+    static uint32_t table[256];
+    for (uint32_t i = 0; table[255] == 0 && i < 256; i++) {
+        table[i] = i;
+        for (int bit = 0; bit < 8; bit++) table[i] = table[i] >> 1 ^ (table[i] & 1) * 0xEDB88320u;
+    }
+    uint32_t crc = UINT32_MAX;
+    for (size_t i = 0; i < len; i++) crc = crc >> 8 ^ table[(crc ^ bytes[i]) & 255];
+    return ~crc;
+}
+
+/* The bytes of an image that moved; `before` has those that were lent. */
+static void moved_text(const struct slice *after, const uint8_t *before, struct text *text) {
     const char *joint = " ";
     for (size_t i = 0; i < after->len; i++)
         if (after->bytes[i] != before[i]) {
@@ -255,6 +351,35 @@ static void answer_text(const struct row *row, const struct output *out, const s
             joint = ",";
         }
     if (joint[0] == ' ') ADD(text, " -");
+}
+
+/* All bytes of an output that holds an image of so many bytes, and what lies behind it. */
+static void output_text(const struct slice *after, const uint8_t *before, uint64_t image,
+                        struct text *text) {
+    if (after->len == 0 || memcmp(after->bytes, before, after->len) == 0) {
+        ADD(text, " =");
+    } else if (after->len > MOST_TOLD) {
+        size_t end = image < after->len ? (size_t)image : after->len;
+        ADD(text, " %" PRIu32 " %" PRIu32, checksum(after->bytes, end),
+            checksum(after->bytes + end, after->len - end));
+    } else {
+        ADD(text, " ");
+        for (size_t i = 0; i < after->len; i++) ADD(text, "%02x", after->bytes[i]);
+    }
+}
+
+/* The bytes that a function is lent to be written, or its first ones. */
+static const struct slice *lent(const struct row *row, const struct input *in) {
+    return &in->b[strchr(row->takes, 'o') != NULL ? 1 : 0];
+}
+
+/* Writes our answer as the recorded lines have it; `before` has the lent bytes as they were. */
+static void answer_text(const struct row *row, const struct output *out, const struct input *in,
+                        const uint8_t *before, struct text *text) {
+    for (int i = 0; i < row->numbers; i++) ADD(text, "%s%" PRIu64, i > 0 ? " " : "", out->n[i]);
+    for (int i = 0; i < row->bytes; i++) ADD(text, "%02x", out->bytes[i]);
+    if (strchr(row->takes, 'w') != NULL) moved_text(lent(row, in), before, text);
+    if (strchr(row->takes, 'o') != NULL) output_text(lent(row, in), before, out->n[1], text);
 }
 
 static const struct row *find_row(const char *name) {
@@ -278,13 +403,15 @@ static const char *run_line(char *line, char *ours, size_t room) {
         struct output out;
         struct text text = {ours, room};
         memset(&out, 0xA5, sizeof out); /* what a call leaves unwritten is seen as a difference */
-        if ((before = malloc(in.b[0].len + 1)) == NULL) exit(2);
-        if (in.b[0].len > 0) memcpy(before, in.b[0].bytes, in.b[0].len);
+        const struct slice *bytes = lent(row, &in);
+        if ((before = malloc(bytes->len + 1)) == NULL) exit(2);
+        if (bytes->len > 0) memcpy(before, bytes->bytes, bytes->len);
         row->call(&in, &out);
-        answer_text(row, &out, &in.b[0], before, &text);
+        answer_text(row, &out, &in, before, &text);
         recorded = arrow + 4;
     }
     free(before);
+    free(in.rows);
     for (int i = 0; i < MOST_SLICES; i++) free(in.b[i].bytes);
     return recorded;
 }
@@ -303,7 +430,7 @@ static void replay_line(const char *path, unsigned long number, char *line, stru
     if (recorded == NULL)
         printf("NOT UNDERSTOOD %s:%lu\n", path, number);
     else
-        printf("DIFFERENT %s:%lu %s: ours %s, the Rust's %s\n", path, number, line, ours, recorded);
+        printf("DIFFERENT %s:%lu %s: ours %s, recorded %s\n", path, number, line, ours, recorded);
 }
 
 /* Replays one file; 0 if it can't be read or has no line to replay. */

@@ -5,6 +5,7 @@ use keleusma_wire::ecc::*;
 pub fn lines() -> Vec<String> {
     let random = &mut Random::new(6);
     let mut lines = Vec::new();
+    lines.push("# the plane's kind".into());
     for kind in [0, 1, 2, 0x7FFF, 0x8000, 0x8001, 0xFFFF] {
         lines.push(format!("plane_kind_for {kind} -> {}", plane_kind_for(kind)));
     }
@@ -42,16 +43,8 @@ fn decoded_words(lines: &mut Vec<String>, random: &mut Random) {
     }
 }
 
-/// Lengths around one and two words, planes shorter, equal and longer, indices to the largest.
 fn planes(lines: &mut Vec<String>, random: &mut Random) {
-    for (data_len, plane_len) in
-        [0, 7, 8, 9, 15, 16, 17].into_iter().flat_map(|data| (0..=3).map(move |p| (data, p)))
-    {
-        let (mut data, mut plane) = (random.bytes(data_len), random.bytes(plane_len));
-        for (word, check) in data.chunks_exact_mut(8).zip(&mut plane) {
-            *check = check_byte(u64::from_le_bytes(word.try_into().expect("eight bytes")));
-            word[random.next() as usize % 8] ^= [0, 1, 3][random.next() as usize % 3];
-        }
+    for (plane, data) in damaged_planes(random) {
         let (ecc, p, d) = (EccPlane::new(&plane), text(&plane), text(&data));
         for index in [0, 1, 2, 3, usize::MAX / 8, usize::MAX / 8 + 1, usize::MAX] {
             let answer = ecc.word(&data, index);
@@ -62,6 +55,21 @@ fn planes(lines: &mut Vec<String>, random: &mut Random) {
         let report = format!("{} {} {}", found.words, found.corrected, found.uncorrectable);
         lines.push(format!("plane_scan {p} {d} -> {report}"));
     }
+}
+
+/// A plane and its data, each word with no bit off, one or two: lengths around one and two words,
+/// planes shorter, equal and longer.
+pub fn damaged_planes(random: &mut Random) -> Vec<(Vec<u8>, Vec<u8>)> {
+    let mut made = |data_len, plane_len| {
+        let (mut data, mut plane) = (random.bytes(data_len), random.bytes(plane_len));
+        for (word, check) in data.chunks_exact_mut(8).zip(&mut plane) {
+            *check = check_byte(u64::from_le_bytes(word.try_into().expect("eight bytes")));
+            word[random.next() as usize % 8] ^= [0, 1, 3][random.next() as usize % 3];
+        }
+        (plane, data)
+    };
+    let lengths = [0, 7, 8, 9, 15, 16, 17].into_iter();
+    lengths.flat_map(|data| (0..=3).map(move |p| (data, p))).map(|(d, p)| made(d, p)).collect()
 }
 
 fn reports(lines: &mut Vec<String>) {
@@ -93,7 +101,7 @@ fn flipped(word: u64, check: u8, bits: &[u32]) -> (u64, u8) {
 }
 
 /// The two numbers that stand for a decoded word.
-fn status(status: WordStatus) -> String {
+pub fn status(status: WordStatus) -> String {
     match status {
         WordStatus::Clean(word) => format!("0 {word}"),
         WordStatus::Corrected(word) => format!("1 {word}"),

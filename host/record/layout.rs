@@ -10,6 +10,7 @@ pub fn lines() -> Vec<String> {
         lines.push(format!("header_bytes {n} -> {}", pair(header_bytes(n).map(|n| n as u64))));
     }
     let maker = RegionMaker::new();
+    lines.push("# each flag's bit, and all 16; then places and lengths".into());
     lines.extend(entries(random).into_iter().map(|entry| region_line(&maker, entry)));
     lines
 }

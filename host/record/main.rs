@@ -2,18 +2,22 @@
 //!
 //! usage: record FOLDER
 //!
-//! It calls the oracle alone, and for mend, which the oracle has not, our reading of document 01. The
-//! folder `programs` in it has what the programs, and host/example, are run on: NAME.kw, what report
-//! prints of it, what scrub writes, and its line. Otherwise one file for each of our crates, one case
-//! a line: function, arguments, `->`, answer. Numbers are decimal and bytes are hex; `-` stands for no
-//! bytes, `00*600` for bytes repeated, `#1024` for the directory entries of kinds 0 to 1023 that are
-//! 0 otherwise, and `+` joins such parts. An answer that may be None is `1 VALUE` or zeros; where
-//! the bytes are lent to be written, it ends with those that moved, `PLACE=VALUE`, or `-`.
+//! It calls the oracle alone, and for what the oracle has not, our readings of document 01: for mend,
+//! for the writer, and for bytes beside a count that is not theirs (pairs). The folder `programs` in it
+//! has what the programs, and host/example, are run on: NAME.kw, what report prints of it, what scrub
+//! writes, and its line. Otherwise one file for each of our crates, one case a line: function,
+//! arguments, `->`, answer. Numbers are decimal and bytes are hex; `-` stands for no bytes, `00*600` for
+//! bytes repeated, `#1024` for the directory entries of kinds 0 to 1023 that are 0 otherwise, `~160` for
+//! 160 bytes of a pattern (`pattern` in writer.rs), and `+` joins such parts. A row is
+//! `KIND.FLAGS.WORDS`, with `*9` nine such of ascending kinds. An answer that may be None is `1 VALUE`
+//! or zeros; where an image is lent to be written, it ends with the bytes that moved, `PLACE=VALUE`, or
+//! `-`; where an output is, with all of its bytes, or `=` if each is as it was.
 
 #[path = "../compare/answers.rs"]
 mod answers;
 mod crc;
 mod ecc;
+mod held;
 mod image;
 #[path = "../compare/images.rs"]
 #[allow(dead_code)] // the comparison uses the rest
@@ -25,15 +29,19 @@ mod layout;
 mod mend;
 #[path = "../compare/mending.rs"]
 mod mending;
+mod pairs;
 #[path = "../compare/paper.rs"]
 #[allow(dead_code)]
 mod paper;
+#[path = "../compare/plan.rs"]
+mod plan;
 mod programs;
 mod scalar;
 mod scan;
 mod scrub;
 mod tables;
 mod view;
+mod writer;
 
 use std::{fs, path::Path};
 
@@ -45,9 +53,12 @@ fn main() {
     write(&folder, "ecc", ecc::lines());
     write(&folder, "view", view::lines());
     write(&folder, "tables", tables::lines());
+    write(&folder, "held", held::lines());
     write(&folder, "scan", scan::lines());
     write(&folder, "scrub", scrub::lines());
     write_under(MENDED, &folder, "mend", mend::lines());
+    write_under(PAIRED, &folder, "pairs", pairs::lines());
+    write_under(WRITTEN, &folder, "writer", writer::lines());
     let programs = Path::new(&folder).join("programs");
     fs::create_dir_all(&programs).expect("the folder is made");
     for case in programs::cases() {
@@ -66,6 +77,11 @@ const MADE: &str =
     "# Answers of the unchanged Rust, made by 'make record' (host/record), not by hand.";
 const MENDED: &str = "# The Rust has no mend: answers of our own reading of document 01, which asks \
     the Rust for parse and\n# decoding (host/compare/mending.rs), made by 'make record', not by hand.";
+const PAIRED: &str =
+    "# Bytes beside a count that is not theirs, which the Rust can't be asked: answers of \
+    our own reading of\n# document 01 (host/compare/paper.rs), made by 'make record', not by hand.";
+const WRITTEN: &str = "# The Rust has no such writer: answers of our own reading of document 01, which \
+    asks the Rust for\n# checksums and check bytes (host/compare/plan.rs), made by 'make record', not by hand.";
 
 fn write(folder: &str, name: &str, lines: Vec<String>) {
     write_under(MADE, folder, name, lines);

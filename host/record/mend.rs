@@ -2,6 +2,7 @@ use crate::image::{image_text, spaced};
 use crate::images;
 use crate::inputs::Random;
 use crate::mending;
+use crate::scrub;
 
 /// Some good images, with and without damage; of the families some of every outcome.
 pub fn lines() -> Vec<String> {
@@ -12,6 +13,8 @@ pub fn lines() -> Vec<String> {
     }
     lines.push("# the image of 4 March: refused, no byte moves".into());
     mend(&mut lines, &images::march(random).0);
+    lines.push("# a protected region that has no words but a plane: whole".into());
+    scrub::no_words().iter().for_each(|bytes| mend(&mut lines, bytes));
     lines.push(
         "# a bit off at each place of the header, in one copy of three, and in each word".into(),
     );

@@ -1,6 +1,6 @@
 use crate::answers::report_numbers;
 use crate::image::{image_text, spaced};
-use crate::images;
+use crate::images::{self, plane, protected};
 use crate::inputs::Random;
 
 /// Of the families of images some, with all kinds of outcome among them.
@@ -12,6 +12,8 @@ pub fn lines() -> Vec<String> {
     }
     lines.push("# the image of 4 March: a byte of an approved region moves".into());
     scrub(&mut lines, &images::march(random).0);
+    lines.push("# a protected region that has no words but a plane: a report of none".into());
+    no_words().iter().for_each(|bytes| scrub(&mut lines, bytes));
     lines.push("# protected regions that share bytes, and that lie on the header".into());
     for family in images::FAMILIES.iter().filter(|f| SAMPLED.contains(&f.name)) {
         let mut left = [15; 4];
@@ -51,6 +53,17 @@ pub fn examples() -> Vec<(&'static str, Vec<u8>)> {
         ("march", march),
         ("unprotected", unprotected),
         ("refused", refused),
+    ]
+}
+
+/// Protected regions of no words: with a plane of none, with one of a word, without a plane.
+pub fn no_words() -> [Vec<u8>; 3] {
+    let random = &mut Random::new(19);
+    let entries = [protected(1, 18, 0), plane(2, 1, 18, 1)];
+    [
+        images::planned(random, &[(1, 2, 0)]),
+        images::sealed(random, &entries, 152),
+        images::sealed(random, &entries[..1], 144),
     ]
 }
 

@@ -9,7 +9,9 @@ pub fn lines() -> Vec<String> {
     let mut lines = Vec::new();
     let mut bytes = image(&[], 73);
     bytes[48..].copy_from_slice(&random.bytes(25));
+    lines.push("# bytes requests: what ends past the image is refused with 7 and 0".into());
     regions(&mut lines, &bytes);
+    lines.push("# tables, ranges and pools of bytes in hand".into());
     tables(&mut lines, &random.bytes(48));
     ranges(&mut lines, &random.bytes(32));
     pools(&mut lines, &random.bytes(20));

@@ -1,4 +1,6 @@
-use crate::answers::{entry, entry_numbers, face_numbers, parse_numbers, place_in, place_numbers};
+use crate::answers::{
+    entry, entry_numbers, face_numbers, parse_numbers, part_numbers, place_in, place_numbers,
+};
 use crate::image::{image_text, spaced};
 use crate::images::{self, plain, plane, protected};
 use crate::inputs::{hex, image, prologue, Entry, Random, RegionMaker};
@@ -19,6 +21,7 @@ pub fn lines() -> Vec<String> {
         parse(&mut lines, &image_text(&bytes), &bytes);
     }
     long(&mut lines);
+    at_the_bounds(&mut lines);
     lines
 }
 
@@ -127,5 +130,38 @@ fn long(lines: &mut Vec<String>) {
         vec![protected(1, 24, 1), plane(2, 3, 25, 1), Entry { flags: 10, ..plane(3, 2, 26, 1) }],
     ] {
         lookups(lines, &images::sealed(&mut Random::new(8), &entries, 8 * 27));
+    }
+}
+
+/// Images that parse accepts though a region is an odd one, each with a neighbour that it refuses.
+fn at_the_bounds(lines: &mut Vec<String>) {
+    let random = &mut Random::new(18);
+    let mut image = |title: &str, entries: &[Entry], len| {
+        let bytes = images::sealed(random, entries, len);
+        lines.push(format!("# {title}"));
+        parse(lines, &image_text(&bytes), &bytes);
+        if WireView::parse(&bytes).is_ok() {
+            lookups(lines, &bytes);
+            contents(lines, &bytes);
+        }
+    };
+    image("a region that ends at the last byte", &[plain(1, 12, 2)], 112);
+    image("a byte less", &[plain(1, 12, 2)], 111);
+    image("an empty region at the last byte", &[plain(1, 13, 0)], 104);
+    image("an empty region a byte past it", &[plain(1, 13, 0)], 103);
+    image("a region on the header", &[plain(1, 0, 12)], 96);
+    image("an empty region on the header", &[plain(1, 0, 0)], 96);
+    image("two regions that overlap", &[plain(1, 18, 2), plain(2, 19, 2)], 168);
+    image("two regions on the same bytes", &[plain(1, 18, 1), plain(2, 18, 1)], 152);
+    image("bytes after all regions", &[plain(1, 12, 1)], 109);
+}
+
+/// The bytes of each region.
+fn contents(lines: &mut Vec<String>, bytes: &[u8]) {
+    let view = WireView::parse(bytes).expect("a good image");
+    for region in (0..view.region_count()).filter_map(|i| view.region_at(i)) {
+        let (text, Entry { word_offset, word_length, .. }) = (image_text(bytes), entry(region));
+        let part = spaced(part_numbers(view.region_bytes(&region).ok()));
+        lines.push(format!("region_bytes {text} {word_offset} {word_length} -> {part}"));
     }
 }

@@ -26,7 +26,7 @@ pub fn plane_kind_for(kind: u16) -> u16
 }
 
 // 64 data columns, then 8 check columns.
-const COLUMNS: [u8; 72] = [
+const COLUMNS: [u8; 64 + CHECK_BITS] = [
     7,
     11,
     13,

@@ -16,6 +16,7 @@ use error::Refusal;
 use layout::BOM;
 use layout::FORMAT_VERSION;
 use layout::MAGIC;
+use layout::MAX_REGIONS;
 
 // An accepted image's number of regions, and which header copies disagreed with their vote.
 pub struct Header {
@@ -103,7 +104,7 @@ fn check_prologue(bytes: &[u8]) -> Counted
         return Counted::Refuse(Refusal::BadPrologueChecksum);
     }
     let n = voted_u16(bytes, 0, 16, 8);
-    if n > 1024 {
+    if n as usize > MAX_REGIONS {
         return Counted::Refuse(Refusal::TooManyRegions { found: n as usize });
     }
     Counted::Count(n)
@@ -113,7 +114,7 @@ fn check_directory(bytes: &[u8], n: usize) -> Check
     requires { ⌜ (headerLength n ≤ length (now bytes)) × (n ≤ 1024) ⌝ }
     ensures { λ r. ⌜ asCheck r ≡ paper.entriesVerdict (length (now (bytes .entry))) 0 (directoryOf n (now (bytes .entry))) ⌝ }
 {
-    let mut kinds = [0u16; 1024];
+    let mut kinds = [0u16; MAX_REGIONS];
     check_entries_in(bytes, n, &mut kinds[..n])
 }
 

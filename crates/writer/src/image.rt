@@ -25,6 +25,7 @@ use super::room::row_words;
 use ecc::ECC_KIND_BIT;
 use error::Refusal;
 use layout::FLAG_IS_ECC;
+use layout::MAX_REGIONS;
 use layout::Region;
 
 // What is refused, or the image written: of `count` rows whose checks said `checked`, kept in `plan` if they are few.
@@ -43,7 +44,7 @@ pub(crate) fn write_plan(
         Checked::Refused(refusal) => return WriteResult::Refused(refusal),
         Checked::Fine(regions) => regions,
     };
-    if regions > 1024 {
+    if regions > MAX_REGIONS {
         return WriteResult::Refused(Refusal::TooManyRegions { found: regions });
     }
     let kept = &plan[..];

@@ -8,6 +8,12 @@ ghost use Rattle.writer.specs.Kept.{kindIn, flagsIn, wordsIn, rowOf};
 ghost use Rattle.writer.specs.Taken.{badRow, marked, withMark, withRow, packedRow, regionsOf, takeRow, takePlan};
 use error::Refusal;
 use layout::FLAG_ECC_PRESENT;
+use layout::FLAG_ENCRYPTED;
+use layout::FLAG_OPTIONAL;
+use layout::MAX_REGIONS;
+
+// All flags that a row may have. A number has another bit exactly if it is above their sum.
+const ROW_FLAGS: u16 = FLAG_ENCRYPTED + FLAG_ECC_PRESENT + FLAG_OPTIONAL;
 
 #[repr(C)]
 pub struct Row {
@@ -56,7 +62,7 @@ pub(crate) fn take_row(plan: &mut [u64; 1536], so_far: Checked, i: usize, row: R
 fn is_bad(row: Row) -> bool
     ensures { λ r. ⌜ r ≡ badRow row ⌝ }
 {
-    row.kind > 0x7FFF || row.flags > 7
+    row.kind > 0x7FFF || row.flags > ROW_FLAGS
 }
 
 // Of a kind above 0x7FFF, which no row that is fine has, this says nothing of use.
@@ -82,7 +88,7 @@ fn bit_of(kind: u16) -> u64
 fn keep(plan: &mut [u64; 1536], i: usize, row: Row)
     ensures { λ _. ⌜ now (plan .exit) ≡ withRow (now (plan .entry)) i row ⌝ }
 {
-    if i < 1024 {
+    if i < MAX_REGIONS {
         plan[512 + i] = packed(row);
     }
 }

@@ -99,5 +99,6 @@ check-prologue-spec =
     returns-4
     (λ c κs. search needs)
     (λ c. search needs)
+    (λ c. search needs)
     returns-5
     returns-6)
