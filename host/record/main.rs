@@ -53,7 +53,7 @@ fn main() {
     write(&folder, "ecc", ecc::lines());
     write(&folder, "view", view::lines());
     write(&folder, "tables", tables::lines());
-    write(&folder, "held", held::lines());
+    write_under(HELD, &folder, "held", held::lines());
     write(&folder, "scan", scan::lines());
     write(&folder, "scrub", scrub::lines());
     write_under(MENDED, &folder, "mend", mend::lines());
@@ -77,9 +77,12 @@ const MADE: &str =
     "# Answers of the unchanged Rust, made by 'make record' (host/record), not by hand.";
 const MENDED: &str = "# The Rust has no mend: answers of our own reading of document 01, which asks \
     the Rust for parse and\n# decoding (host/compare/mending.rs), made by 'make record', not by hand.";
-const PAIRED: &str =
-    "# Bytes beside a count that is not theirs, which the Rust can't be asked: answers of \
-    our own reading of\n# document 01 (host/compare/paper.rs), made by 'make record', not by hand.";
+const HELD: &str =
+    "# Answers of the unchanged Rust, made by 'make record' (host/record), not by hand. \
+    Of bytes that it\n# makes no table of: no records, empty, stride 0 (docs/DIFFERENCES.md).";
+const PAIRED: &str = "# Bytes beside a count that is not theirs, which the Rust can't be asked: answers of \
+    our own reading of\n# document 01, which asks the Rust for decoding (host/compare/paper.rs), made by \
+    'make record', not by\n# hand.";
 const WRITTEN: &str = "# The Rust has no such writer: answers of our own reading of document 01, which \
     asks the Rust for\n# checksums and check bytes (host/compare/plan.rs), made by 'make record', not by hand.";
 
