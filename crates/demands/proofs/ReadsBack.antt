@@ -15,17 +15,17 @@ use Rattle.paper.specs.Layout.{headerLength, directoryOf, directory, Entry}
 use Rattle.paper.specs.Parse.{parse, accepted}
 use Rattle.paper.specs.Views.{seen, firstThat, ofKind, findRegion, bytesSpan, partOf}
 use Rattle.paper.specs.Parity.{Class, clean, decode}
-use Rattle.paper.specs.Scan.{Among, examined, isCorrected, isLost, total, classesAt, report, reportOf, scan}
+use Rattle.paper.specs.Scan.{Among, examined, isCorrected, isLost, total, classesAt, report, scan}
 use Rattle.paper.specs.Writer.{Row, flagged, rowEntries, planeEntries, rowWords, planesWords, planesBytes, planes, regions, firstWord, planDirectory, imageOf, imageLength, kindAmong, image, write}
 use Rattle.paper.proofs.BytesLaw.{at-left}
 use Rattle.paper.proofs.ParityLaw.{decode-clean}
-use Rattle.paper.proofs.ScanLaw.{length-part, at-part, length-classes}
+use Rattle.paper.proofs.ScanLaw.{length-part, at-part, length-classes, scan-all}
 use Rattle.laws.proofs.VerdictLaw.{or-left, or-right}
 use Rattle.laws.proofs.EntriesLaw.{Accepted, accepted-image}
 use Rattle.laws.proofs.PlanLaw.{RowsOK, PlanOK, wrote}
 use Rattle.laws.proofs.PlanPairs.{pairsPlan, plan-among}
 use Rattle.laws.proofs.MendLaw.{InOrder}
-use Rattle.laws.proofs.ImageLaw.{written-length, count-is, directory-back, examined-back, visits-back, in-order, in-body, parse-fine}
+use Rattle.laws.proofs.ImageLaw.{written-length, count-is, directory-back, examined-back, any-back, in-order, in-body, parse-fine}
 use Rattle.demands.specs.Damage.{entryOfRow, ReadsBack}
 use Rattle.demands.proofs.Answer.{total-zero}
 use Rattle.demands.proofs.Settles.{parses}
@@ -128,8 +128,8 @@ module _ (rs : List Row) (payload : List ℕ) (o : PlanOK rs payload) (b : Bytes
   all-clean f z = total-zero f w (examined w) (λ q c m. ap f (ap (decode (wordAt w q)) (order .checks q c m) ∙ decode-clean (wordAt w q)) ∙ z)
 
   scans : scan w ≡ given (ltb 0 (planes rs)) (record { words = length (examined w); corrected = 0; uncorrectable = 0 })
-  unfolding scan reportOf report examined w
-  scans = rw (visits-back rs payload o, length-classes w (examined w), all-clean isCorrected refl, all-clean isLost refl)
+  unfolding report w
+  scans = scan-all w ∙ rw (any-back rs payload o, length-classes w (examined w), all-clean isCorrected refl, all-clean isLost refl)
 
   pub reads-back : ReadsBack rs payload (imageOf rs payload)
   unfolding w

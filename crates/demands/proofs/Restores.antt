@@ -13,14 +13,15 @@ use Rattle.paper.specs.Bytes.{at, wordAt, given, Bytes}
 use Rattle.paper.specs.Refusals.{fine}
 use Rattle.paper.specs.Layout.{headerLength, directory, Entry}
 use Rattle.paper.specs.Parity.{Class, decode, wordAfter, checkAfter, fixedWord, fixedCheck}
-use Rattle.paper.specs.Scan.{Among, examined, isLost, total, classesAt, report, reportOf, visitsAny, pairsOver, scan, Report}
+use Rattle.paper.specs.Scan.{visits, Among, examined, isLost, total, classesAt, report, scan, Report}
 use Rattle.paper.specs.Writer.{Row, flagged, rowEntries, planeEntry, planeEntries, planeWords, rowWords, planesBytes, planes, regions, firstWord, planDirectory, imageOf, image, write}
 use Rattle.paper.specs.Mend.{mendVerdict, Mended, mendBytes, changed, wholeOf, mended, mend}
 use Rattle.paper.proofs.BytesLaw.{at-left}
-use Rattle.laws.proofs.HeaderLaw.{same-directory, same-verdict}
+use Rattle.paper.proofs.ScanLaw.{anyOf, scan-all}
+use Rattle.laws.proofs.HeaderLaw.{same-visits, same-verdict}
 use Rattle.laws.proofs.MendLaw.{InOrder, meets-rule}
 use Rattle.laws.proofs.PlanLaw.{RowsOK, PlanOK, wrote}
-use Rattle.laws.proofs.ImageLaw.{in-order, in-body, directory-back, visits-back, mend-fine}
+use Rattle.laws.proofs.ImageLaw.{in-order, in-body, directory-back, any-back, mend-fine}
 use Rattle.demands.specs.Damage.{Protected, Damaged, Lost}
 use Rattle.demands.proofs.Answer.{none-total, total-zero}
 use Rattle.demands.proofs.DamageLaw.{damaged-header, damaged-examined, outside, wholly, none-lost}
@@ -45,19 +46,19 @@ module _ (rs : List Row) (payload : List ℕ) (room : ℕ) (w : List ℕ) (h : w
 
   -- ---- restores
 
-  visits : (d : List ℕ) → Damaged 1 w d → visitsAny (length d) (directory d) (directory d) ≡ ltb 0 (planes rs)
-  visits d a =
+  visited : (d : List ℕ) → Damaged 1 w d → anyOf (visits d) ≡ ltb 0 (planes rs)
+  visited d a =
       let r = wrote rs payload room w h in
-      rw (a .size, same-directory d w (damaged-header 1 w d written-order a))
-      (subst (λ (x : List ℕ). visitsAny (length x) (directory x) (directory x) ≡ ltb 0 (planes rs)) (r .is) (visits-back rs payload (r .plan)))
+      ap anyOf (same-visits d w (a .size) (damaged-header 1 w d written-order a))
+      ∙ subst (λ (x : List ℕ). anyOf (visits x) ≡ ltb 0 (planes rs)) (r .is) (any-back rs payload (r .plan))
 
   -- whole, if a row is flagged 2
   whole : (d : List ℕ) → Damaged 1 w d → wholeOf (scan d) ≡ ltb 0 (planes rs)
-  unfolding scan reportOf report examined
+  unfolding report
   whole d a =
       let z : total isLost (classesAt d (examined d)) ≡ 0 =
       total-zero isLost d (examined d) (λ q c m. none-lost w d written-order a q c (subst (Among q c) (damaged-examined 1 w d written-order a) m)) in
-      rw (visits d a) (go (ltb 0 (planes rs)) z)
+      rw (scan-all d, visited d a) (go (ltb 0 (planes rs)) z)
     where
       go : (v : Bool) → total isLost (classesAt d (examined d)) ≡ 0 → wholeOf (given v (report (classesAt d (examined d)))) ≡ v
       go true e = rw e
@@ -73,10 +74,10 @@ module _ (rs : List Row) (payload : List ℕ) (room : ℕ) (w : List ℕ) (h : w
 
   module _ (d : List ℕ) (a : Damaged 2 w d) where
     whole-none-lost : wholeOf (scan d) ≡ true → (q c : ℕ) → Protected w q c → Lost d q c → ⊥
-    unfolding scan reportOf report examined
-    whole-none-lost t q c m e = go (visitsAny (length d) (directory d) (directory d)) t
+    unfolding report
+    whole-none-lost t q c m e = go (anyOf (visits d)) (ap wholeOf (sym (scan-all d)) ∙ t)
       where
-        go : (v : Bool) → wholeOf (given v (reportOf d (pairsOver (length d) (directory d) (directory d)))) ≡ true → ⊥
+        go : (v : Bool) → wholeOf (given v (report (classesAt d (examined d)))) ≡ true → ⊥
         go true u =
             let z : total isLost (classesAt d (examined d)) ≡ 0 = eqb-true (total isLost (classesAt d (examined d))) 0 u in
             let n : isLost (decode (wordAt d q) (at d c)) ≡ 0 = none-total isLost d (examined d) z q c (subst (Among q c) (sym (damaged-examined 2 w d written-order a)) m) in

@@ -18,7 +18,7 @@ use Rattle.paper.specs.Crc.{bitsLow, sent, serialR, stepR, crc32}
 use Rattle.paper.specs.Layout.{voted, prologue, countIn, count, headerLength, directoryBytesOf, directoryBytes, entryOf, entries, directoryOf, directory}
 use Rattle.paper.specs.Parity.{columns, checkOf}
 use Rattle.paper.specs.Views.{firstThat}
-use Rattle.paper.specs.Scan.{planeOf, pairsFrom, regionPairs, isProtected, pairsOver, examined, Among, here, later}
+use Rattle.paper.specs.Scan.{planeOf, isProtected, visitOf, visitsOver, visits, pairsFrom, wordsOf, examinedIn, examined, Among, here, later}
 use Rattle.paper.specs.Writer.{Row, rowEntries, planeEntry, planeEntries, rowWords, planesWords, planes, regions, planDirectory, entryBytes, entriesBytes, prologueStart, prologueBytes, checks, planeBytes, planesBytes, imageOf, kindAmong, rowsVerdict, imageLength, planVerdict, write, image}
 use Rattle.paper.specs.Mend.{Elsewhere}
 use Rattle.demands.specs.Damage.{off, OneCopyOff, distance, bitsOff, Damaged}
@@ -44,7 +44,7 @@ unfolding sample count countIn prologue voted tab read
 sample-count = refl
 
 pub sample-examined : examined sample ≡ record { word = 18; check = 160 } ∷ record { word = 19; check = 161 } ∷ []
-unfolding sample examined pairsOver isProtected regionPairs planeOf firstThat pairsFrom directory directoryOf entries entryOf directoryBytes directoryBytesOf count countIn prologue voted tab read bit
+unfolding sample examined visits visitsOver visitOf isProtected planeOf firstThat examinedIn wordsOf pairsFrom directory directoryOf entries entryOf directoryBytes directoryBytesOf count countIn prologue voted tab read bit
 sample-examined = refl
 
 -- ---- the damage: the first copies in bit 0 of each byte, the second in bit 1, the third in bit 2; a data bit of word 18, a check bit of word 19

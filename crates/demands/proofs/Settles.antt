@@ -12,15 +12,15 @@ use Rattle.paper.specs.Refusals.{fine}
 use Rattle.paper.specs.Layout.{prologue, count, headerLength, directoryBytes, header, directory, prologueOff, directoryOff, scrubWanted}
 use Rattle.paper.specs.Parse.{parseVerdict, accepted, headerOf, parse}
 use Rattle.paper.specs.Parity.{decode}
-use Rattle.paper.specs.Scan.{Among, examined, visitsAny, isCorrected, isLost, total, classesAt, Report, report, reportOf, scan}
+use Rattle.paper.specs.Scan.{visits, Among, examined, isCorrected, isLost, total, classesAt, Report, report, scan}
 use Rattle.paper.specs.Scrub.{scrub}
 use Rattle.paper.specs.Mend.{apartVerdict, mendVerdict, Mended, mendBytes, wholeOf, mended, mend}
 use Rattle.paper.proofs.BytesLaw.{at-left, at-right, length-thrice}
 use Rattle.paper.proofs.LayoutLaw.{length-prologue, length-directoryBytes, differs-not}
-use Rattle.paper.proofs.ScanLaw.{length-classes}
+use Rattle.paper.proofs.ScanLaw.{length-classes, anyOf, scan-all}
 use Rattle.laws.specs.Steps.{scrubAll}
 use Rattle.laws.proofs.VerdictLaw.{passed-both, or-none}
-use Rattle.laws.proofs.HeaderLaw.{SameHeader, same-header, same-directory, same-examined, same-verdict, copied}
+use Rattle.laws.proofs.HeaderLaw.{SameHeader, same-header, same-directory, same-visits, same-examined, same-verdict, copied}
 use Rattle.laws.proofs.EntriesLaw.{accepted-image}
 use Rattle.laws.proofs.PairLaw.{Where, inWord, isCheck, neither, classify}
 use Rattle.laws.proofs.CodeLaw.{none-corrected, lost-again}
@@ -93,10 +93,11 @@ module _ (x y : List ℕ) (r : Option Report) (k : ℕ) (t : Bool) (b : Bytes x)
   words-left = length-classes y (examined x) ∙ sym (length-classes x (examined x))
 
   scan-again : scan y ≡ uncorrected (scan x)
-  unfolding scan examined reportOf report
+  unfolding report
   scan-again =
-      rw (m .rule .size, same-directory y x same, rw (same-examined y x (m .rule .size) same) at none-left, lost-left, words-left)
-      (go (visitsAny (length x) (directory x) (directory x)))
+      scan-all y
+      ∙ rw (same-visits y x (m .rule .size) same, same-examined y x (m .rule .size) same, rw (same-examined y x (m .rule .size) same) at none-left, lost-left, words-left, scan-all x)
+      (go (anyOf (visits x)))
     where
       go : (v : Bool)
           → given v (record { words = length (classesAt x (examined x)); corrected = 0; uncorrectable = total isLost (classesAt x (examined x)) })

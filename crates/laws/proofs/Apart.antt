@@ -12,8 +12,9 @@ use lib.ListN.{length}
 use Rattle.paper.specs.Refusals.{fine}
 use Rattle.paper.specs.Layout.{Entry, headerLength, isPlane, hasParity, count, directory}
 use Rattle.paper.specs.Parse.{parseVerdict}
-use Rattle.paper.specs.Scan.{planeOf, Pair, pairsFrom, pairsWith, regionPairs, isProtected, pairsOver, Among, here, later, examined}
+use Rattle.paper.specs.Scan.{planeOf, Pair, pairsFrom, isProtected, visitWith, visitOf, visitsOver, visits, wordsOf, examinedIn, Among, here, later, examined}
 use Rattle.paper.specs.Mend.{meets, meetsAny, inHeader, apartVerdict, mendVerdict}
+use Rattle.paper.proofs.ScanLaw.{examined-one, examined-append}
 use Rattle.laws.proofs.VerdictLaw.{true-false, passed, passed-both, or-left, or-right}
 use Rattle.laws.proofs.EntriesLaw.{In, now, next, EntriesOK, ends, other-kind, Accepted, accepted-image, Plane, found-plane}
 use Rattle.laws.proofs.PairLaw.{among-append, among-from}
@@ -88,14 +89,14 @@ pub record Origin (all : List Entry) (e : Entry) (q c : ℕ) : Type 0 where
   pub word : q ≡ e .offset + k
   pub check : c ≡ 8 * plane .offset + k
 
-origin : (len : ℕ) (all : List Entry) (e : Entry) {q c : ℕ} → isPlane (e .flags) ≡ false → Among q c (regionPairs len all e) → Origin all e q c
-unfolding regionPairs
+origin : (len : ℕ) (all : List Entry) (e : Entry) {q c : ℕ} → isPlane (e .flags) ≡ false → Among q c (examinedIn (visitWith e (planeOf len all e))) → Origin all e q c
+unfolding examinedIn wordsOf
 origin len all e n m = go (planeOf len all e) refl m
   where
-    go : {q c : ℕ} (r : Option Entry) → planeOf len all e ≡ r → Among q c (pairsWith e r) → Origin all e q c
+    go : {q c : ℕ} (r : Option Entry) → planeOf len all e ≡ r → Among q c (examinedIn (visitWith e r)) → Origin all e q c
     go none h i = elim i [ ]
     go (some p) h i =
-        let s = among-from (min (e .words) (8 * p .words)) (e .offset) (8 * p .offset) i in
+        let s = among-from (min (e .words) (8 * p .words)) (e .offset) (8 * p .offset) (subst (Among _ _) (examined-one (record { region = e; plane = p })) i) in
         record {
           noPlane = n;
           plane = p;
@@ -112,22 +113,24 @@ pub record OriginIn (all es : List Entry) (q c : ℕ) : Type 0 where
   pub there : In entry es
   pub origin : Origin all entry q c
 
-protected-pairs : (len : ℕ) (all : List Entry) (e : Entry) {q c : ℕ} → Among q c (cond (isProtected e) (regionPairs len all e) []) → Origin all e q c
-unfolding isProtected
+protected-pairs : (len : ℕ) (all : List Entry) (e : Entry) {q c : ℕ} → Among q c (examinedIn (visitOf len all e)) → Origin all e q c
+unfolding visitOf isProtected examinedIn
 protected-pairs len all e m = go (isPlane (e .flags)) refl (hasParity (e .flags)) m
   where
-    go : {q c : ℕ} (t : Bool) → isPlane (e .flags) ≡ t → (u : Bool) → Among q c (cond (not t && u) (regionPairs len all e) []) → Origin all e q c
+    go : {q c : ℕ} (t : Bool) → isPlane (e .flags) ≡ t → (u : Bool) → Among q c (examinedIn (cond (not t && u) (visitWith e (planeOf len all e)) [])) → Origin all e q c
     go true h u i = elim i [ ]
     go false h true i = origin len all e h i
     go false h false i = elim i [ ]
 
-pub origin-in : (len : ℕ) (all es : List Entry) {q c : ℕ} → Among q c (pairsOver len all es) → OriginIn all es q c
-unfolding pairsOver
+pub origin-in : (len : ℕ) (all es : List Entry) {q c : ℕ} → Among q c (examinedIn (visitsOver len all es)) → OriginIn all es q c
+unfolding visitsOver examinedIn
 origin-in len all [] m = elim m [ ]
-origin-in len all (e ∷ es) m = go (λ i. origin-in len all es i) (among-append (cond (isProtected e) (regionPairs len all e) []) (pairsOver len all es) m)
+origin-in len all (e ∷ es) m =
+    go (λ i. origin-in len all es i)
+    (among-append (examinedIn (visitOf len all e)) (examinedIn (visitsOver len all es)) (subst (Among _ _) (examined-append (visitOf len all e) (visitsOver len all es)) m))
   where
-    go : {q c : ℕ} → (Among q c (pairsOver len all es) → OriginIn all es q c)
-        → Among q c (cond (isProtected e) (regionPairs len all e) []) ⊎ Among q c (pairsOver len all es) → OriginIn all (e ∷ es) q c
+    go : {q c : ℕ} → (Among q c (examinedIn (visitsOver len all es)) → OriginIn all es q c)
+        → Among q c (examinedIn (visitOf len all e)) ⊎ Among q c (examinedIn (visitsOver len all es)) → OriginIn all (e ∷ es) q c
     go f (inl i) = record { entry = e; there = now refl; origin = protected-pairs len all e i }
     go f (inr i) = let r = f i in record { entry = r .entry; there = next (r .there); origin = r .origin }
 
@@ -218,35 +221,37 @@ module _ (len n : ℕ) (all : List Entry) (ok : EntriesOK len all) (apart : Laid
       })
       (run-apart e p m h f j (suc a) (suc c) (suc k) (omega arith) (omega arith) (omega arith) (omega arith))
 
-  region-apart : (e : Entry) → In e all → AllApart len (cond (isProtected e) (regionPairs len all e) [])
-  unfolding isProtected regionPairs
+  region-apart : (e : Entry) → In e all → AllApart len (examinedIn (visitOf len all e))
+  unfolding visitOf isProtected examinedIn wordsOf
   region-apart e m = go (isPlane (e .flags)) refl (hasParity (e .flags)) (planeOf len all e) refl
     where
-      go : (t : Bool) → isPlane (e .flags) ≡ t → (u : Bool) (r : Option Entry) → planeOf len all e ≡ r → AllApart len (cond (not t && u) (pairsWith e r) [])
+      go : (t : Bool) → isPlane (e .flags) ≡ t → (u : Bool) (r : Option Entry) → planeOf len all e ≡ r → AllApart len (examinedIn (cond (not t && u) (visitWith e r) []))
       go true h u r g = AllApart.nil
       go false h false r g = AllApart.nil
       go false h true none g = AllApart.nil
       go false h true (some p) g =
-          run-apart e p m h (found-plane len all e p g) (min (e .words) (8 * p .words)) (e .offset) (8 * p .offset) 0 (omega arith) (omega arith)
-          (omega arith) (omega arith)
+          subst (AllApart len) (sym (examined-one (record { region = e; plane = p })))
+          (run-apart e p m h (found-plane len all e p g) (min (e .words) (8 * p .words)) (e .offset) (8 * p .offset) 0 (omega arith) (omega arith)
+          (omega arith) (omega arith))
 
-  over-apart : (es : List Entry) → EntriesOK len es → ((e : Entry) → In e es → In e all) → AllApart len (pairsOver len all es)
-  unfolding pairsOver
+  over-apart : (es : List Entry) → EntriesOK len es → ((e : Entry) → In e es → In e all) → AllApart len (examinedIn (visitsOver len all es))
+  unfolding visitsOver examinedIn
   over-apart es EntriesOK.nil f = AllApart.nil
   over-apart es (EntriesOK.cons {e = e} {es = fs} h k r) f =
-      append-apart (cond (isProtected e) (regionPairs len all e) []) (pairsOver len all fs)
+      subst (AllApart len) (sym (examined-append (visitOf len all e) (visitsOver len all fs)))
+      (append-apart (examinedIn (visitOf len all e)) (examinedIn (visitsOver len all fs))
       (region-apart e (f e (now refl)))
       (over-apart fs r (λ g m. f g (next m)))
       (λ q c q′ c′ i j.
       let o = origin-in len all fs j in
       free e (o .entry) (f e (now refl)) (f (o .entry) (next (o .there)))
-      (λ d. other-kind (e .kind) fs k (o .entry) (o .there) (sym d)) q c q′ c′ (protected-pairs len all e i) (o .origin))
+      (λ d. other-kind (e .kind) fs k (o .entry) (o .there) (sym d)) q c q′ c′ (protected-pairs len all e i) (o .origin)))
 
-  pub examined-apart : AllApart len (pairsOver len all all)
+  pub examined-apart : AllApart len (examinedIn (visitsOver len all all))
   examined-apart = over-apart all ok (λ e m. m)
 
   -- examined words and check bytes lie past the header
-  pub examined-past : (q c : ℕ) → Among q c (pairsOver len all all) → (headerLength n ≤ 8 * q) × (headerLength n ≤ c)
+  pub examined-past : (q c : ℕ) → Among q c (examinedIn (visitsOver len all all)) → (headerLength n ≤ 8 * q) × (headerLength n ≤ c)
   examined-past q c m =
       let o = origin-in len all all m in
       let r = o .origin in
@@ -269,9 +274,9 @@ module _ (x : List ℕ) (v : mendVerdict x ≡ fine) where
   laid = laid-apart (count x) 0 [] (directory x) (passed-both (parseVerdict x) (apartVerdict (count x) 0 [] (directory x)) v .1)
 
   pub apart : AllApart (length x) (examined x)
-  unfolding examined
+  unfolding examined visits
   apart = examined-apart (length x) (count x) (directory x) (accepted .entries) laid
 
   pub past : (q c : ℕ) → Among q c (examined x) → (headerLength (count x) ≤ 8 * q) × (headerLength (count x) ≤ c)
-  unfolding examined
+  unfolding examined visits
   past = examined-past (length x) (count x) (directory x) (accepted .entries) laid

@@ -9,7 +9,7 @@ use lib.Seq.{ext-getD}
 use Rattle.paper.specs.Bytes.{at, thrice}
 use Rattle.paper.specs.Layout.{maj3, voted, prologue, countIn, count, headerLength, directoryBytesOf, directoryBytes, header, directoryOf, directory, entries}
 use Rattle.paper.specs.Parse.{parseVerdict}
-use Rattle.paper.specs.Scan.{examined}
+use Rattle.paper.specs.Scan.{visits, examinedIn, examined}
 use Rattle.paper.specs.Mend.{mendVerdict}
 use Rattle.paper.proofs.BytesLaw.{tab-ext, thrice-0, thrice-1, thrice-2, thrice-3}
 use Rattle.paper.proofs.LayoutLaw.{maj3-same, length-voted, at-voted, length-prologue, length-directoryBytes}
@@ -68,9 +68,13 @@ module _ (x y : List ℕ) (s : SameHeader x y) where
   same-directory = ap₂ entries (s .count≡) (s .directoryBytes≡)
 
 module _ (x y : List ℕ) (l : length x ≡ length y) (s : SameHeader x y) where
+  pub same-visits : visits x ≡ visits y
+  unfolding visits
+  same-visits = rw (l, same-directory x y s)
+
   pub same-examined : examined x ≡ examined y
   unfolding examined
-  same-examined = rw (l, same-directory x y s)
+  same-examined = ap examinedIn same-visits
 
   pub same-parse : parseVerdict x ≡ parseVerdict y
   unfolding parseVerdict

@@ -12,18 +12,19 @@ use Rattle.paper.specs.Refusals.{fine}
 use Rattle.paper.specs.Crc.{allOnes, sent, serialR, crc32}
 use Rattle.paper.specs.Layout.{voted, prologue, countIn, count, headerLength, directoryBytesOf, directoryBytes, header, Entry, entryOf, entries, directoryOf, directory}
 use Rattle.paper.specs.Parse.{prologueVerdict, parseVerdict}
-use Rattle.paper.specs.Scan.{Among, examined, visitsAny}
+use Rattle.paper.specs.Scan.{visits, Among, examinedIn, examined}
 use Rattle.paper.specs.Mend.{mendVerdict}
 use Rattle.paper.specs.Writer.{Row, flagged, planeWords, rowEntries, planeEntry, planeEntries, rowWords, planesWords, planes, regions, firstWord, planDirectory, entryBytes, entriesBytes, prologueStart, prologueBytes, checks, planeBytes, planesBytes, imageOf, imageLength}
 use Rattle.paper.proofs.BytesLaw.{read-le, at-left, at-right, length-thrice}
 use Rattle.paper.proofs.ParseLaw.{good-prologue, entries-say}
+use Rattle.paper.proofs.ScanLaw.{anyOf}
 use Rattle.laws.proofs.HeaderLaw.{voted-copies, copies-first, copies-second}
 use Rattle.laws.proofs.BytesLow.{bytes-nil, bytes-append, bytes-thrice, bytes-le, bytes-take}
 use Rattle.laws.proofs.CodeLaw.{check-low}
 use Rattle.laws.proofs.EntriesLaw.{EntriesOK, entries-fine}
 use Rattle.laws.proofs.MendLaw.{InOrder}
 use Rattle.laws.proofs.PlanLaw.{RowsOK, PlanOK, Packed, packed-append, packed-rows, packed-planes, Before, packed-apart, directory-ok}
-use Rattle.laws.proofs.PlanPairs.{pairsPlan, plan-pairs, plan-visits, length-planes, checked}
+use Rattle.laws.proofs.PlanPairs.{visitsPlan, pairsPlan, plan-pairs, plan-any, plan-visits, length-planes, checked}
 
 -- ---- entries read back
 
@@ -299,15 +300,17 @@ module _ (rs : List Row) (payload : List ℕ) (ok : PlanOK rs payload) where
   entries-in : EntriesOK (imageLength rs) (planDirectory rs)
   entries-in = directory-ok (imageLength rs) rs (ok .rows) (omega arith)
 
-  pub examined-back : examined (imageOf rs payload) ≡ pairsPlan rs (firstWord rs) (firstWord rs + rowWords rs)
-  unfolding examined planDirectory
-  examined-back =
-      rw (written-length, directory-back) (plan-pairs (imageLength rs) (firstWord rs) (firstWord rs + rowWords rs) rs (ok .rows) entries-in)
-
-  pub visits-back : visitsAny (length (imageOf rs payload)) (directory (imageOf rs payload)) (directory (imageOf rs payload)) ≡ ltb 0 (planes rs)
-  unfolding planDirectory
+  visits-back : visits (imageOf rs payload) ≡ visitsPlan rs (firstWord rs) (firstWord rs + rowWords rs)
+  unfolding visits planDirectory
   visits-back =
       rw (written-length, directory-back) (plan-visits (imageLength rs) (firstWord rs) (firstWord rs + rowWords rs) rs (ok .rows) entries-in)
+
+  pub examined-back : examined (imageOf rs payload) ≡ pairsPlan rs (firstWord rs) (firstWord rs + rowWords rs)
+  unfolding examined
+  examined-back = ap examinedIn visits-back ∙ plan-pairs rs (firstWord rs) (firstWord rs + rowWords rs)
+
+  pub any-back : anyOf (visits (imageOf rs payload)) ≡ ltb 0 (planes rs)
+  any-back = ap anyOf visits-back ∙ plan-any rs (firstWord rs) (firstWord rs + rowWords rs)
 
   bytes-image : Bytes payload → Bytes (imageOf rs payload)
   unfolding imageOf

@@ -1,7 +1,7 @@
--- The examined words of a plan's directory, and that their check bytes are theirs. Assumes nothing.
+-- The visits and examined words of a plan's directory, and that their check bytes are theirs. Assumes nothing.
 use mathlib.Core.Path.{_≡_, refl, sym, ap, ap₂, _∙_, subst}
-use mathlib.Core.Bool.{Bool, true, false, not, _&&_, _||_, cond}
-use mathlib.Core.List.{List, [], _∷_, _++_, append-assoc, append-nil}
+use mathlib.Core.Bool.{Bool, true, false, not, _&&_, cond}
+use mathlib.Core.List.{List, [], _∷_, _++_, append-nil}
 use mathlib.Core.Logic.{_⊎_, inl, inr}
 use mathlib.Core.Option.{Option, some}
 use Prim.Native.Nat.{ℕ, zero, suc, _+_, _*_, _/_, _<_, min}
@@ -17,25 +17,58 @@ use Rattle.paper.specs.Bytes.{at, read, wordAt}
 use Rattle.paper.specs.Layout.{Entry, isPlane}
 use Rattle.paper.specs.Parity.{checkOf}
 use Rattle.paper.specs.Views.{firstThat, planeFor}
-use Rattle.paper.specs.Scan.{planeOf, Pair, pairsFrom, pairsWith, regionPairs, isProtected, pairsOver, Among, found, visitsAny}
+use Rattle.paper.specs.Scan.{planeOf, Visit, visitWith, visitOf, visitsOver, Pair, pairsFrom, wordsOf, examinedIn, isProtected, Among}
 use Rattle.paper.specs.Writer.{Row, flagged, planeWords, rowEntries, planeEntry, planeEntries, rowWords, planesWords, planes, kindAmong, checks, planeBytes, planesBytes}
 use Rattle.paper.proofs.BytesLaw.{read-ext, read-drop, at-left, at-right}
+use Rattle.paper.proofs.ScanLaw.{anyOf, examined-append, visits-append}
 use Rattle.laws.proofs.VerdictLaw.{true-false, or-left, or-right}
 use Rattle.laws.proofs.EntriesLaw.{In, now, next, in-left, EntriesOK, plane-plain}
 use Rattle.laws.proofs.PairLaw.{among-append, among-left, among-right, Step, among-from, from-among}
 use Rattle.laws.proofs.PlanLaw.{RowsOK}
 
--- ---- the pairs as the plan has them: rows from word a on, planes from word b on
+-- ---- as the plan has them: rows from word a on, planes from word b on
+
+abbrev rowEntry : ℕ → Row → Entry
+rowEntry a r = record { kind = r .kind; flags = r .flags; offset = a; words = r .words; covers = 0; spare = 0 }
+
+unfoldable pub visitsPlan : List Row → ℕ → ℕ → List Visit
+visitsPlan [] a b = []
+visitsPlan (r ∷ rs) a b =
+    cond (flagged r) (record { region = rowEntry a r; plane = planeEntry b r } ∷ []) [] ++ visitsPlan rs (a + r .words) (b + cond (flagged r) (planeWords r) 0)
 
 unfoldable pub pairsPlan : List Row → ℕ → ℕ → List Pair
 pairsPlan [] a b = []
 pairsPlan (r ∷ rs) a b =
     cond (flagged r) (pairsFrom (r .words) a (8 * b)) [] ++ pairsPlan rs (a + r .words) (b + cond (flagged r) (planeWords r) 0)
 
--- ---- each flagged row's plane is the first that covers its kind
+pub plan-pairs : (rs : List Row) (a b : ℕ) → examinedIn (visitsPlan rs a b) ≡ pairsPlan rs a b
+unfolding visitsPlan pairsPlan examinedIn wordsOf planeEntry
+plan-pairs [] a b = refl
+plan-pairs (r ∷ rs) a b =
+    examined-append (cond (flagged r) (record { region = rowEntry a r; plane = planeEntry b r } ∷ []) []) (visitsPlan rs (a + r .words) (b + cond (flagged r) (planeWords r) 0))
+    ∙ ap₂ (λ (x y : List Pair). x ++ y) (go (flagged r)) (plan-pairs rs (a + r .words) (b + cond (flagged r) (planeWords r) 0))
+  where
+    -- no words past the plane
+    covered : min (r .words) (8 * ((r .words + 7) / 8)) ≡ r .words
+    covered = min-eq-left (omega arith)
 
-abbrev rowEntry : ℕ → Row → Entry
-rowEntry a r = record { kind = r .kind; flags = r .flags; offset = a; words = r .words; covers = 0; spare = 0 }
+    go : (t : Bool) → examinedIn (cond t (record { region = rowEntry a r; plane = planeEntry b r } ∷ []) []) ≡ cond t (pairsFrom (r .words) a (8 * b)) []
+    go true = append-nil (pairsFrom (min (r .words) (8 * planeWords r)) a (8 * b)) ∙ ap (λ (n : ℕ). pairsFrom n a (8 * b)) covered
+    go false = refl
+
+-- some region is visited exactly if a row is flagged 2
+pub plan-any : (rs : List Row) (a b : ℕ) → anyOf (visitsPlan rs a b) ≡ ltb 0 (planes rs)
+unfolding visitsPlan planes
+plan-any [] a b = refl
+plan-any (r ∷ rs) a b = go (plan-any rs (a + r .words) (b + 0)) (flagged r)
+  where
+    go : anyOf (visitsPlan rs (a + r .words) (b + 0)) ≡ ltb 0 (planes rs) → (t : Bool)
+        → anyOf (cond t (record { region = rowEntry a r; plane = planeEntry b r } ∷ []) [] ++ visitsPlan rs (a + r .words) (b + cond t (planeWords r) 0))
+        ≡ ltb 0 (cond t 1 0 + planes rs)
+    go h true = sym (lt-ltb 0 (1 + planes rs) (omega arith))
+    go h false = h ∙ ap (ltb 0) (sym (zero-add (planes rs)))
+
+-- ---- each flagged row's plane is the first that covers its kind
 
 -- the planes lie from word b on
 data Finds (all : List Entry) : List Row → ℕ → Type 0 where
@@ -89,99 +122,42 @@ finds-rows a ss fs (RowsOK.cons {r = r} {rs = ts} k f n o) g =
 finds : (a b : ℕ) (rs : List Row) → RowsOK rs → Finds (rowEntries a rs ++ planeEntries b rs) rs b
 finds a b rs o = finds-rows a rs (planeEntries b rs) o (finds-planes rs b o)
 
--- ---- the examined words of the directory
+-- ---- the visits of the directory
 
 module _ (len : ℕ) (all : List Entry) where
-  pub over-append : (es fs : List Entry) → pairsOver len all (es ++ fs) ≡ pairsOver len all es ++ pairsOver len all fs
-  unfolding pairsOver
-  over-append [] fs = refl
-  over-append (e ∷ es) fs = simp (over-append es fs, append-assoc)
-
-  over-planes : (b : ℕ) (rs : List Row) → pairsOver len all (planeEntries b rs) ≡ []
-  unfolding planeEntries pairsOver isProtected planeEntry bit
+  over-planes : (b : ℕ) (rs : List Row) → visitsOver len all (planeEntries b rs) ≡ []
+  unfolding planeEntries visitsOver visitOf isProtected planeEntry bit
   over-planes b [] = refl
   over-planes b (r ∷ rs) = go (λ m. over-planes m rs) (flagged r)
     where
-      go : ((m : ℕ) → pairsOver len all (planeEntries m rs) ≡ []) → (t : Bool)
-          → pairsOver len all (cond t (planeEntry b r ∷ planeEntries (b + planeWords r) rs) (planeEntries b rs)) ≡ []
+      go : ((m : ℕ) → visitsOver len all (planeEntries m rs) ≡ []) → (t : Bool)
+          → visitsOver len all (cond t (planeEntry b r ∷ planeEntries (b + planeWords r) rs) (planeEntries b rs)) ≡ []
       go f true = f (b + planeWords r)
       go f false = f b
 
-  visits-append : (es fs : List Entry) → visitsAny len all (es ++ fs) ≡ visitsAny len all es || visitsAny len all fs
-  unfolding visitsAny
-  visits-append [] fs = refl
-  visits-append (e ∷ es) fs =
-      ap (λ (t : Bool). (isProtected e && found (planeOf len all e)) || t) (visits-append es fs)
-      ∙ sym (assoc (isProtected e && found (planeOf len all e)) (visitsAny len all es) (visitsAny len all fs))
+  over-rows : EntriesOK len all → (a b : ℕ) (rs : List Row) → RowsOK rs → Finds all rs b → ((e : Entry) → In e (rowEntries a rs) → In e all)
+      → visitsOver len all (rowEntries a rs) ≡ visitsPlan rs a b
+  unfolding rowEntries visitsOver visitsPlan visitOf isProtected
+  over-rows ok a b rs RowsOK.nil g i = refl
+  over-rows ok a b rs (RowsOK.cons {r = r} {rs = ss} k f n o) (cons t g) i =
+      ap₂ (λ (x y : List Visit). x ++ y)
+      (ap (λ (u : Bool). cond (not u && flagged r) (visitWith (rowEntry a r) (planeOf len all (rowEntry a r))) []) (row-plane (r .flags) f)
+      ∙ go (flagged r) refl (i (rowEntry a r) (now refl)))
+      (over-rows ok (a + r .words) (b + cond (flagged r) (planeWords r) 0) ss o g (λ e m. i e (next m)))
     where
-      assoc : (a b c : Bool) → (a || b) || c ≡ a || (b || c)
-      assoc true b c = refl
-      assoc false b c = refl
+      go : (u : Bool) → flagged r ≡ u → In (rowEntry a r) all
+          → cond u (visitWith (rowEntry a r) (planeOf len all (rowEntry a r))) [] ≡ cond u (record { region = rowEntry a r; plane = planeEntry b r } ∷ []) []
+      go true e m = rw (plane-plain len all ok (rowEntry a r) m, t e)
+      go false e m = refl
 
-  visits-planes : (b : ℕ) (rs : List Row) → visitsAny len all (planeEntries b rs) ≡ false
-  unfolding planeEntries visitsAny isProtected planeEntry bit
-  visits-planes b [] = refl
-  visits-planes b (r ∷ rs) = go (λ m. visits-planes m rs) (flagged r)
-    where
-      go : ((m : ℕ) → visitsAny len all (planeEntries m rs) ≡ false) → (t : Bool)
-          → visitsAny len all (cond t (planeEntry b r ∷ planeEntries (b + planeWords r) rs) (planeEntries b rs)) ≡ false
-      go f true = f (b + planeWords r)
-      go f false = f b
-
-  module _ (ok : EntriesOK len all) where
-    visits-rows : (a b : ℕ) (rs : List Row) → RowsOK rs → Finds all rs b → ((e : Entry) → In e (rowEntries a rs) → In e all)
-        → visitsAny len all (rowEntries a rs) ≡ ltb 0 (planes rs)
-    unfolding rowEntries visitsAny planes isProtected planeEntry
-    visits-rows a b rs RowsOK.nil g i = refl
-    visits-rows a b rs (RowsOK.cons {r = r} {rs = ss} k f n o) (cons t g) i =
-        ap (λ (u : Bool). ((not u && flagged r) && found (planeOf len all (rowEntry a r))) || visitsAny len all (rowEntries (a + r .words) ss)) (row-plane (r .flags) f)
-        ∙ go (flagged r) refl (i (rowEntry a r) (now refl))
-        (visits-rows (a + r .words) (b + cond (flagged r) (planeWords r) 0) ss o g (λ e m. i e (next m)))
-      where
-        go : (u : Bool) → flagged r ≡ u → In (rowEntry a r) all → visitsAny len all (rowEntries (a + r .words) ss) ≡ ltb 0 (planes ss)
-            → (u && found (planeOf len all (rowEntry a r))) || visitsAny len all (rowEntries (a + r .words) ss) ≡ ltb 0 (cond u 1 0 + planes ss)
-        go true e m h = rw (plane-plain len all ok (rowEntry a r) m, t e) (sym (lt-ltb 0 (1 + planes ss) (omega arith)))
-        go false e m h = h ∙ ap (ltb 0) (sym (zero-add (planes ss)))
-
-    over-rows : (a b : ℕ) (rs : List Row) → RowsOK rs → Finds all rs b → ((e : Entry) → In e (rowEntries a rs) → In e all)
-        → pairsOver len all (rowEntries a rs) ≡ pairsPlan rs a b
-    unfolding rowEntries pairsOver pairsPlan isProtected regionPairs planeEntry
-    over-rows a b rs RowsOK.nil g i = refl
-    over-rows a b rs (RowsOK.cons {r = r} {rs = ss} k f n o) (cons t g) i =
-        ap₂ (λ (x y : List Pair). x ++ y)
-        (ap (λ (u : Bool). cond (not u && flagged r) (pairsWith (rowEntry a r) (planeOf len all (rowEntry a r))) []) (row-plane (r .flags) f)
-        ∙ go (flagged r) refl (i (rowEntry a r) (now refl)))
-        (over-rows (a + r .words) (b + cond (flagged r) (planeWords r) 0) ss o g (λ e m. i e (next m)))
-      where
-        -- no words past the plane
-        covered : min (r .words) (8 * ((r .words + 7) / 8)) ≡ r .words
-        covered = min-eq-left (omega arith)
-
-        go : (u : Bool) → flagged r ≡ u → In (rowEntry a r) all
-            → cond u (pairsWith (rowEntry a r) (planeOf len all (rowEntry a r))) [] ≡ cond u (pairsFrom (r .words) a (8 * b)) []
-        go true e m = rw (plane-plain len all ok (rowEntry a r) m, t e, covered)
-        go false e m = refl
-
-pub plan-pairs : (len a b : ℕ) (rs : List Row) → RowsOK rs → EntriesOK len (rowEntries a rs ++ planeEntries b rs)
-    → pairsOver len (rowEntries a rs ++ planeEntries b rs) (rowEntries a rs ++ planeEntries b rs) ≡ pairsPlan rs a b
-plan-pairs len a b rs o ok =
-    let all = rowEntries a rs ++ planeEntries b rs in
-    over-append len all (rowEntries a rs) (planeEntries b rs)
-    ∙ ap₂ (λ (x y : List Pair). x ++ y)
-    (over-rows len all ok a b rs o (finds a b rs o) (λ e m. in-left (rowEntries a rs) (planeEntries b rs) m)) (over-planes len all b rs)
-    ∙ append-nil (pairsPlan rs a b)
-
--- some region is visited exactly if a row is flagged 2
 pub plan-visits : (len a b : ℕ) (rs : List Row) → RowsOK rs → EntriesOK len (rowEntries a rs ++ planeEntries b rs)
-    → visitsAny len (rowEntries a rs ++ planeEntries b rs) (rowEntries a rs ++ planeEntries b rs) ≡ ltb 0 (planes rs)
+    → visitsOver len (rowEntries a rs ++ planeEntries b rs) (rowEntries a rs ++ planeEntries b rs) ≡ visitsPlan rs a b
 plan-visits len a b rs o ok =
     let all = rowEntries a rs ++ planeEntries b rs in
     visits-append len all (rowEntries a rs) (planeEntries b rs)
-    ∙ rw (visits-rows len all ok a b rs o (finds a b rs o) (λ e m. in-left (rowEntries a rs) (planeEntries b rs) m), visits-planes len all b rs) (or-none (ltb 0 (planes rs)))
-  where
-    or-none : (t : Bool) → t || false ≡ t
-    or-none true = refl
-    or-none false = refl
+    ∙ ap₂ (λ (x y : List Visit). x ++ y)
+    (over-rows len all ok a b rs o (finds a b rs o) (λ e m. in-left (rowEntries a rs) (planeEntries b rs) m)) (over-planes len all b rs)
+    ∙ append-nil (visitsPlan rs a b)
 
 -- the words of a flagged row are among them
 pub plan-among : (before : List Row) (r : Row) (behind : List Row) → flagged r ≡ true → (a b k : ℕ) → k < r .words

@@ -1,23 +1,23 @@
 -- Where mend accepts an image, scrub reports as the scan does, stores the repaired words and touches nothing else. Assumes nothing.
 use mathlib.Core.Path.{_≡_, refl, sym, ap, ap₂, _∙_, subst}
-use mathlib.Core.Bool.{Bool, true, false, _&&_, _||_, cond}
+use mathlib.Core.Bool.{false, _||_, or-false, or-assoc}
 use mathlib.Core.List.{List, [], _∷_, _++_}
 use Prim.Native.Nat.{ℕ, suc, _+_, _*_, _/_, _≤_, _<_}
-use native.Mathlib.Nat.{add-zero, zero-add, add-assoc}
 use native.Mathlib.Omega.{arith}
-use lib.ListN.{length, drop, length-append}
+use lib.ListN.{length, drop}
 use lib.Seq.{drop-drop}
 use Rattle.paper.specs.Bytes.{at, wordAt, Bytes, given}
 use Rattle.paper.specs.Refusals.{fine}
 use Rattle.paper.specs.Layout.{count, headerLength, directory, Entry}
 use Rattle.paper.specs.Parse.{parseVerdict}
 use Rattle.paper.specs.Parity.{Class, clean, flipped, beyond, decode, flipWord, wordAfter, fixedWord}
-use Rattle.paper.specs.Scan.{Pair, Among, here, later, regionPairs, isProtected, pairsOver, examined, planeOf, found, visitsAny, isCorrected, isLost, total, report, classAt, classesAt, reportOf, scan}
-use Rattle.paper.specs.Scrub.{State, storedWord, scrubWord, scrubWords, visited, Scrubbed, scrubRegion, scrubFrom, scrub}
+use Rattle.paper.specs.Scan.{Visit, visitOf, visitsOver, visits, Pair, Among, here, later, examinedIn, examined, isCorrected, isLost, total, Report, report, classAt, classesAt, scan}
+use Rattle.paper.specs.Scrub.{State, storedWord, scrubWord, scrubWords, Scrubbed, scrubRegion, scrubFrom, scrub}
 use Rattle.paper.specs.Mend.{mendVerdict}
 use Rattle.paper.proofs.BytesLaw.{read-ext, read-lt}
 use Rattle.paper.proofs.LayoutLaw.{length-directoryOf}
-use Rattle.paper.proofs.ScanLaw.{length-classes}
+use Rattle.paper.proofs.WalkLaw.{nth-first}
+use Rattle.paper.proofs.ScanLaw.{plus, plus-none, none-plus, plus-assoc, report-none, report-append, anyOf, any-append, examined-append, scan-all, mark, visits-words}
 use Rattle.laws.specs.Steps.{scrubAll}
 use Rattle.laws.proofs.HeaderLaw.{SameHeader, same-directory, same-parse, header-kept}
 use Rattle.laws.proofs.CodeLaw.{wordAfter-low}
@@ -85,6 +85,15 @@ scrubs len x b e (AllApart.cons {p = p} {ps = ps} s f r) =
 
 -- ---- the counts, and the image parsed afresh before each region
 
+-- a class counts on either side
+report-cons : (c : Class) (cs ds : List Class) → plus (report (c ∷ cs)) (report ds) ≡ plus (report cs) (report (c ∷ ds))
+unfolding report total
+report-cons c cs ds =
+    let w : suc (length cs) + length ds ≡ length cs + suc (length ds) = omega arith in
+    let k : isCorrected c + total isCorrected cs + total isCorrected ds ≡ total isCorrected cs + (isCorrected c + total isCorrected ds) = omega arith in
+    let l : isLost c + total isLost cs + total isLost ds ≡ total isLost cs + (isLost c + total isLost ds) = omega arith in
+    rw (w, k, l)
+
 module _ (x : List ℕ) where
   -- the words that are still ahead stand as they stood at first
   record Ahead (ps : List Pair) (y : List ℕ) : Type 0 where
@@ -110,28 +119,19 @@ module _ (x : List ℕ) where
         checks = λ q c m. kept-free k q c (f q c m) .1 ∙ a .checks q c (later m);
       }
 
-  totalOf : (Class → ℕ) → List Pair → ℕ
-  totalOf f ps = total f (classesAt x ps)
+  reportAt : List Pair → Report
+  reportAt ps = report (classesAt x ps)
 
   record Ran (xs ys : List Pair) (s t : State) : Type 0 where
     ahead : Ahead ys (t .image)
     image : t .image ≡ scrubAll xs (s .image)
-    any : t .any ≡ s .any
-    words : t .words ≡ s .words + length xs
-    corrected : t .corrected ≡ s .corrected + totalOf isCorrected xs
-    uncorrectable : t .uncorrectable ≡ s .uncorrectable + totalOf isLost xs
+    visited : t .visited ≡ s .visited
+    met : report (t .met) ≡ plus (report (s .met)) (reportAt xs)
 
   run : (xs ys : List Pair) (s : State) → Ahead (xs ++ ys) (s .image) → AllApart (length x) (xs ++ ys) → Past (xs ++ ys) → Ran xs ys s (scrubWords xs s)
-  unfolding scrubWords scrubWord scrubAll totalOf total classesAt Past
+  unfolding scrubWords scrubWord scrubAll reportAt classesAt Past
   run [] ys s a b h =
-      record {
-        ahead = a;
-        image = refl;
-        any = refl;
-        words = sym (add-zero (s .words));
-        corrected = sym (add-zero (s .corrected));
-        uncorrectable = sym (add-zero (s .uncorrectable));
-      }
+      record { ahead = a; image = refl; visited = refl; met = sym (ap (plus (report (s .met))) report-none ∙ plus-none (report (s .met))) }
   run (p ∷ xs) ys s a (AllApart.cons i f b) h =
       let r = classAt (s .image) p in
       let r≡ : r ≡ classAt x p =
@@ -140,93 +140,73 @@ module _ (x : List ℕ) where
       record {
         ahead = g .ahead;
         image = g .image;
-        any = g .any;
-        words = g .words ∙ omega arith;
-        corrected = g .corrected ∙ ap (λ (d : Class). s .corrected + isCorrected d + totalOf isCorrected xs) r≡
-            ∙ add-assoc (s .corrected) (isCorrected (classAt x p)) (totalOf isCorrected xs);
-        uncorrectable = g .uncorrectable ∙ ap (λ (d : Class). s .uncorrectable + isLost d + totalOf isLost xs) r≡
-            ∙ add-assoc (s .uncorrectable) (isLost (classAt x p)) (totalOf isLost xs);
+        visited = g .visited;
+        met = g .met ∙ report-cons r (s .met) (classesAt x xs) ∙ ap (λ (d : Class). plus (report (s .met)) (report (d ∷ classesAt x xs))) r≡;
       }
-
-  total-append : (f : Class → ℕ) (xs ys : List Pair) → totalOf f (xs ++ ys) ≡ totalOf f xs + totalOf f ys
-  unfolding totalOf total classesAt
-  total-append f [] ys = sym (zero-add (totalOf f ys))
-  total-append f (p ∷ xs) ys =
-      ap (λ (n : ℕ). f (classAt x p) + n) (total-append f xs ys) ∙ sym (add-assoc (f (classAt x p)) (totalOf f xs) (totalOf f ys))
 
   scrubAll-append : (xs ys : List Pair) (y : List ℕ) → scrubAll (xs ++ ys) y ≡ scrubAll ys (scrubAll xs y)
   unfolding scrubAll
   scrubAll-append [] ys y = refl
   scrubAll-append (p ∷ xs) ys y = scrubAll-append xs ys (storedWord (classAt y p) p y)
 
-  -- what scrub answers if the entries with words ps are still to come
-  outcome : State → Bool → List Pair → Scrubbed
-  outcome s v ps =
+  -- what scrub answers if these visits are still to come
+  outcome : State → List Visit → Scrubbed
+  outcome s vs =
       record {
-        image = scrubAll ps (s .image);
-        report =
-            given (s .any || v)
-            (record { words = s .words + length ps; corrected = s .corrected + totalOf isCorrected ps; uncorrectable = s .uncorrectable + totalOf isLost ps });
+        image = scrubAll (examinedIn vs) (s .image);
+        report = given (s .visited || anyOf vs) (plus (report (s .met)) (reportAt (examinedIn vs)));
       }
 
-  or-assoc : (a b c : Bool) → (a || b) || c ≡ a || (b || c)
-  or-assoc true b c = refl
-  or-assoc false b c = refl
+  outcome-none : (s : State) → outcome s [] ≡ record { image = s .image; report = given (s .visited) (report (s .met)) }
+  unfolding outcome scrubAll examinedIn reportAt classesAt
+  outcome-none s = rw (or-false (s .visited), report-none, plus-none (report (s .met)))
 
-  outcome-next : (s t : State) (v u : Bool) (xs ys : List Pair) → t .image ≡ scrubAll xs (s .image) → t .any ≡ s .any || v → t .words ≡ s .words + length xs
-      → t .corrected ≡ s .corrected + totalOf isCorrected xs → t .uncorrectable ≡ s .uncorrectable + totalOf isLost xs
-      → outcome t u ys ≡ outcome s (v || u) (xs ++ ys)
-  unfolding outcome
-  outcome-next s t v u xs ys m a b c d =
-      let e₁ : t .words + length ys ≡ s .words + length (xs ++ ys) = omega (arith, length-append xs ys) in
-      let e₂ : t .corrected + totalOf isCorrected ys ≡ s .corrected + totalOf isCorrected (xs ++ ys) = omega (arith, total-append isCorrected xs ys) in
-      let e₃ : t .uncorrectable + totalOf isLost ys ≡ s .uncorrectable + totalOf isLost (xs ++ ys) = omega (arith, total-append isLost xs ys) in
-      rw (a, or-assoc (s .any) v u, e₁, e₂, e₃, m, scrubAll-append xs ys (s .image))
+  outcome-next : (s t : State) (vs ws : List Visit) → t .image ≡ scrubAll (examinedIn vs) (s .image) → t .visited ≡ s .visited || anyOf vs
+      → report (t .met) ≡ plus (report (s .met)) (reportAt (examinedIn vs)) → outcome t ws ≡ outcome s (vs ++ ws)
+  unfolding outcome reportAt
+  outcome-next s t vs ws m a r =
+      let ps = examinedIn vs in
+      let qs = examinedIn ws in
+      rw (a, m, r, any-append vs ws, or-assoc (s .visited) (anyOf vs) (anyOf ws), examined-append vs ws, scrubAll-append ps qs (s .image), report-append x ps qs, plus-assoc (report (s .met)) (report (classesAt x ps)) (report (classesAt x qs)))
 
   module _ (P : parseVerdict x ≡ fine) where
+    rest : List Entry → List Visit
+    rest fs = visitsOver (length x) (directory x) fs
+
     from : (fs : List Entry) (i : ℕ) (s : State) → drop i (directory x) ≡ fs
-        → Ahead (pairsOver (length x) (directory x) fs) (s .image) → AllApart (length x) (pairsOver (length x) (directory x) fs) → Past (pairsOver (length x) (directory x) fs)
-        → scrubFrom (length fs) i s ≡ outcome s (visitsAny (length x) (directory x) fs) (pairsOver (length x) (directory x) fs)
-    unfolding scrubFrom scrubRegion outcome visitsAny pairsOver totalOf total classesAt scrubAll Past visited
-    from [] i s e a b h =
-        rw (or-none (s .any), add-zero (s .words), add-zero (s .corrected), add-zero (s .uncorrectable))
-      where
-        or-none : (t : Bool) → t || false ≡ t
-        or-none true = refl
-        or-none false = refl
+        → Ahead (examinedIn (rest fs)) (s .image) → AllApart (length x) (examinedIn (rest fs)) → Past (examinedIn (rest fs))
+        → scrubFrom (length fs) i s ≡ outcome s (rest fs)
+    unfolding scrubFrom scrubRegion rest visitsOver Past
+    from [] i s e a b h = sym (outcome-none s)
     from (g ∷ fs) i s e a b h =
         let k : SameHeader (s .image) x = header-kept x (s .image) (a .head) in
         let v : parseVerdict (s .image) ≡ fine = same-parse (s .image) x (a .size) k ∙ P in
-        let xs : List Pair = cond (isProtected g) (regionPairs (length x) (directory x) g) [] in
-        let ys : List Pair = pairsOver (length x) (directory x) fs in
-        let r = run xs ys (visited (length x) (directory x) g s) a b h in
-        let t : State = scrubWords xs (visited (length x) (directory x) g s) in
+        let vs : List Visit = visitOf (length x) (directory x) g in
+        let ps : List Pair = examinedIn vs in
+        let qs : List Pair = examinedIn (rest fs) in
+        let split : examinedIn (vs ++ rest fs) ≡ ps ++ qs = examined-append vs (rest fs) in
+        let r = run ps qs (mark (anyOf vs) s) (subst (λ (l : List Pair). Ahead l (mark (anyOf vs) s .image)) split a) (subst (AllApart (length x)) split b) (subst Past split h) in
+        let t : State = scrubWords ps (mark (anyOf vs) s) in
         let u : suc i ≡ i + 1 = omega arith in
-        rw (v, same-directory (s .image) x k, e, a .size)
+        rw (v, same-directory (s .image) x k, nth-first (directory x) i g fs e, a .size, visits-words vs s)
         (from fs (suc i) t (ap (λ (n : ℕ). drop n (directory x)) u ∙ sym (drop-drop 1 i (directory x)) ∙ ap (drop 1) e)
-        (r .ahead) (apart-right xs ys b) (λ q c m. h q c (among-right xs ys m))
-        ∙ outcome-next s t (isProtected g && found (planeOf (length x) (directory x) g)) (visitsAny (length x) (directory x) fs) xs ys
-        (r .image) (r .any) (r .words) (r .corrected) (r .uncorrectable))
+        (r .ahead) (apart-right ps qs (subst (AllApart (length x)) split b)) (λ q c m. h q c (subst (Among q c) (sym split) (among-right ps qs m)))
+        ∙ outcome-next s t vs (rest fs) (r .image) (r .visited) (r .met))
 
 length-directory : (x : List ℕ) → length (directory x) ≡ count x
 unfolding directory
 length-directory x = length-directoryOf (count x) x
 
 pub scrub-is : (x : List ℕ) → mendVerdict x ≡ fine → Bytes x → scrub x ≡ record { image = scrubAll (examined x) x; report = scan x }
-unfolding scrub scan examined Past outcome totalOf reportOf report
+unfolding scrub examined visits Past outcome reportAt rest
 scrub-is x v b =
-    let s : State = record { image = x; any = false; words = 0; corrected = 0; uncorrectable = 0 } in
+    let s : State = record { image = x; met = []; visited = false } in
     rw (parsed x v)
     (ap (λ (n : ℕ). scrubFrom n 0 s) (sym (length-directory x))
     ∙ from x (parsed x v) (directory x) 0 s refl
     (record { size = refl; bytes = b; head = λ i h. refl; words = λ q c m. refl; checks = λ q c m. refl })
     (apart x v) (λ q c m. past x v q c m .0)
-    ∙ rw (
-      length-classes x (examined x),
-      zero-add (length (examined x)),
-      zero-add (total isCorrected (classesAt x (examined x))),
-      zero-add (total isLost (classesAt x (examined x))),
-    ))
+    ∙ rw (report-none, none-plus (report (classesAt x (examined x))), scan-all x))
 
 pub scrub-report : (x : List ℕ) → mendVerdict x ≡ fine → Bytes x → scrub x .report ≡ scan x
 scrub-report x v b = ap (λ (s : Scrubbed). s .report) (scrub-is x v b)

@@ -13,10 +13,10 @@ use Rattle.paper.specs.Refusals.{fine, refuse}
 use Rattle.paper.specs.Crc.{bitsLow, sent, serialR, stepR, crc32}
 use Rattle.paper.specs.Layout.{voted, prologue, countIn, count, directoryBytesOf, directoryBytes, header, differs, prologueOff, directoryOff, entryOf, entries, directoryOf, directory, Entry}
 use Rattle.paper.specs.Parse.{parse, parseVerdict, headerVerdict, prologueVerdict, entriesVerdict, among, headerOf, Parsed, accepted, refused}
-use Rattle.paper.specs.Views.{tableSpan, tableVerdict, bytesSpan, Span, noSpan, seen, firstThat}
+use Rattle.paper.specs.Views.{tableSpan, tableVerdict, bytesSpan, Span, noSpan, seen, nth, firstThat}
 use Rattle.paper.specs.Parity.{columns, find, isOdd, classOf, checkOf, syndrome, decode, flipWord}
-use Rattle.paper.specs.Scan.{planeOf, pairsFrom, regionPairs, isProtected, pairsOver, examined, total, report, classAt, classesAt, reportOf, visitsAny, scan}
-use Rattle.paper.specs.Scrub.{scrub, scrubFrom, scrubRegion, scrubWords, scrubWord, visited, Scrubbed}
+use Rattle.paper.specs.Scan.{planeOf, isProtected, visitOf, visitsOver, visits, pairsFrom, wordsOf, examinedIn, examined, total, report, classAt, classesAt, scanOf, scan}
+use Rattle.paper.specs.Scrub.{scrub, scrubFrom, scrubRegion, scrubVisits, scrubWords, scrubWord, Scrubbed}
 use Rattle.paper.specs.Mend.{meets, meetsAny, inHeader, apartVerdict, mendVerdict, fixAt, fixAll, mendBytes, changed, mend, Mending, refusedMend, mended}
 use Rattle.paper.specs.Programs.{text, digits, decimal, field, tooLong, tooLongLine, refusedLine, regionsLine, eccLine, storedLine, reportText, scrubImage, scrubLine}
 use Rattle.paper.specs.Writer.{Row, rowEntries, planeEntry, planeEntries, rowWords, planesWords, planes, regions, planDirectory, entryBytes, entriesBytes, prologueStart, prologueBytes, checks, planeBytes, planesBytes, imageOf, kindAmong, rowsVerdict, imageLength, planVerdict, write, image, refusedPlan}
@@ -28,11 +28,11 @@ unfolding parse parseVerdict headerVerdict prologueVerdict entriesVerdict among 
 parsing x = parse x
 
 mending : List ℕ → Mending
-unfolding parsing mend mendVerdict mendBytes header apartVerdict meets meetsAny inHeader examined pairsOver isProtected regionPairs planeOf firstThat pairsFrom fixAll fixAt classAt decode syndrome checkOf columns find isOdd ones classOf syn flipWord le scan visitsAny reportOf report classesAt total changed
+unfolding parsing mend mendVerdict mendBytes header apartVerdict meets meetsAny inHeader examined visits visitsOver visitOf isProtected planeOf firstThat examinedIn wordsOf pairsFrom fixAll fixAt classAt decode syndrome checkOf columns find isOdd ones classOf syn flipWord le scan scanOf report classesAt total changed
 mending x = mend x
 
 scrubbing : List ℕ → Scrubbed
-unfolding mending scrub scrubFrom scrubRegion scrubWords scrubWord visited
+unfolding mending scrub scrubFrom scrubRegion nth scrubVisits scrubWords scrubWord
 scrubbing x = scrub x
 
 printing : List ℕ → List ℕ

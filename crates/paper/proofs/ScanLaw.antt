@@ -1,20 +1,22 @@
--- Laws of the scans: over parts of the image, region by region. Assumes nothing.
-use mathlib.Core.Path.{_≡_, refl, sym, ap, ap₂, _∙_, subst}
-use mathlib.Core.Bool.{Bool, true, false, _&&_, _||_, cond}
-use mathlib.Core.List.{List, [], _∷_, _++_}
-use mathlib.Core.Option.{Option, none, some}
+-- Laws of the scans and of scrub: over parts of the image, visit by visit. Assumes nothing.
+use mathlib.Core.Path.{_≡_, refl, sym, ap, ap₂, _∙_}
+use mathlib.Core.Bool.{Bool, true, false, _||_, or-true, or-false}
+use mathlib.Core.List.{List, [], _∷_, _++_, append-nil, append-assoc}
+use mathlib.Core.Option.{none, some}
 use Prim.Native.Nat.{ℕ, zero, suc, _+_, _-_, _*_, _/_, _≤_, _<_, min}
-use native.Mathlib.Nat.{add-zero, add-suc, suc-add, add-assoc, mul-div-cancel, min-le-left, min-le-right}
+use native.Mathlib.Nat.{add-zero, zero-add, add-suc, suc-add, add-assoc, mul-div-cancel, min-le-left, min-le-right}
 use native.Mathlib.Omega.{arith}
 use borrow.Author.Tests.{le-leb, lt-leb}
-use lib.Dec.{leb, lit<}
-use lib.ListN.{length, getD, take, drop, length-take, length-drop, length-append}
-use lib.Seq.{getD-take, getD-drop}
-use Rattle.paper.specs.Bytes.{at, read, wordAt, part, given, tab}
+use lib.Dec.{lit<}
+use lib.ListN.{length, take, drop, length-take, length-drop, length-append}
+use lib.Seq.{getD-take, getD-drop, drop-nil}
+use Rattle.paper.specs.Bytes.{at, wordAt, part, given, tab}
 use Rattle.paper.specs.Layout.{Entry, start, end}
 use Rattle.paper.specs.Parity.{Class, decode}
-use Rattle.paper.specs.Scan.{Report, isCorrected, isLost, total, report, sliceWords, sliceScan, Pair, pairsFrom, pairsWith, planeWithin, planeOf, classAt, classesAt, reportOf, scanWith, visitsAny, pairsOver, found}
-use Rattle.paper.proofs.BytesLaw.{length-tab, getD-tab, tab-ext, read-ext}
+use Rattle.paper.specs.Views.{nth}
+use Rattle.paper.specs.Scan.{Report, isCorrected, isLost, total, report, sliceWords, sliceScan, planeWithin, planeOf, isProtected, Visit, visitWith, visitOf, visitsOver, visits, Pair, pairsFrom, wordsOf, examinedIn, examined, classAt, classesAt, scanOf, scan}
+use Rattle.paper.specs.Scrub.{State, scrubWord, scrubWords, scrubVisits, visitAt}
+use Rattle.paper.proofs.BytesLaw.{tab-ext, read-ext}
 
 -- ---- parts
 
@@ -50,8 +52,8 @@ module _ (x : List ℕ) (e p : Entry) (he : end e ≤ length x) (hp : end p ≤ 
       ∙ ap (λ (m : ℕ). min m (8 * p .words)) (mul-div-cancel (e .words) (lit< tt))
 
   -- a region's part scanned against its plane's
-  pub slice-scan : sliceScan (part x (start e) (end e)) (part x (start p) (end p)) ≡ reportOf x (pairsWith e (some p))
-  unfolding sliceScan reportOf
+  pub slice-scan : sliceScan (part x (start e) (end e)) (part x (start p) (end p)) ≡ report (classesAt x (wordsOf (record { region = e; plane = p })))
+  unfolding sliceScan wordsOf
   slice-scan =
       let m = min (e .words) (8 * p .words) in
       let f : ℕ → Class = λ (w : ℕ). decode (wordAt (part x (start e) (end e)) w) (at (part x (start p) (end p)) w) in
@@ -75,7 +77,7 @@ module _ (len : ℕ) (e p : Entry) where
 
 -- ---- reports add up
 
-total-append : (f : Class → ℕ) (cs ds : List Class) → total f (cs ++ ds) ≡ total f cs + total f ds
+pub total-append : (f : Class → ℕ) (cs ds : List Class) → total f (cs ++ ds) ≡ total f cs + total f ds
 unfolding total
 total-append f [] ds = omega arith
 total-append f (c ∷ cs) ds = ap (λ (n : ℕ). f c + n) (total-append f cs ds) ∙ sym (add-assoc (f c) (total f cs) (total f ds))
@@ -98,11 +100,113 @@ plus a b =
 abbrev pub noReport : Report
 noReport = record { words = 0; corrected = 0; uncorrectable = 0 }
 
-pub report-append : (x : List ℕ) (ps qs : List Pair) → reportOf x (ps ++ qs) ≡ plus (reportOf x ps) (reportOf x qs)
-unfolding reportOf report
+pub plus-none : (r : Report) → plus r noReport ≡ r
+plus-none r = rw (add-zero (r .words), add-zero (r .corrected), add-zero (r .uncorrectable))
+
+pub none-plus : (r : Report) → plus noReport r ≡ r
+none-plus r = rw (zero-add (r .words), zero-add (r .corrected), zero-add (r .uncorrectable))
+
+pub plus-assoc : (a b c : Report) → plus (plus a b) c ≡ plus a (plus b c)
+plus-assoc a b c =
+    rw (add-assoc (a .words) (b .words) (c .words), add-assoc (a .corrected) (b .corrected) (c .corrected), add-assoc (a .uncorrectable) (b .uncorrectable) (c .uncorrectable))
+
+pub report-none : report [] ≡ noReport
+unfolding report total
+report-none = refl
+
+pub report-append : (x : List ℕ) (ps qs : List Pair) → report (classesAt x (ps ++ qs)) ≡ plus (report (classesAt x ps)) (report (classesAt x qs))
+unfolding report
 report-append x ps qs =
     rw (classes-append x ps qs, length-append (classesAt x ps) (classesAt x qs), total-append isCorrected (classesAt x ps) (classesAt x qs), total-append isLost (classesAt x ps) (classesAt x qs))
 
-pub report-none : (x : List ℕ) → reportOf x [] ≡ noReport
-unfolding reportOf report classesAt total
-report-none x = refl
+-- ---- lists of visits
+
+-- there is one
+abbrev pub anyOf : List Visit → Bool
+anyOf [] = false
+anyOf (v ∷ vs) = true
+
+pub any-append : (vs ws : List Visit) → anyOf (vs ++ ws) ≡ anyOf vs || anyOf ws
+any-append [] ws = refl
+any-append (v ∷ vs) ws = refl
+
+pub examined-append : (vs ws : List Visit) → examinedIn (vs ++ ws) ≡ examinedIn vs ++ examinedIn ws
+unfolding examinedIn
+examined-append [] ws = refl
+examined-append (v ∷ vs) ws = ap (λ (ps : List Pair). wordsOf v ++ ps) (examined-append vs ws) ∙ sym (append-assoc (wordsOf v) (examinedIn vs) (examinedIn ws))
+
+pub examined-one : (v : Visit) → examinedIn (v ∷ []) ≡ wordsOf v
+unfolding examinedIn
+examined-one v = append-nil (wordsOf v)
+
+pub scan-given : (x : List ℕ) (vs : List Visit) → scanOf x vs ≡ given (anyOf vs) (report (classesAt x (examinedIn vs)))
+unfolding scanOf
+scan-given x [] = refl
+scan-given x (v ∷ vs) = refl
+
+pub scan-all : (x : List ℕ) → scan x ≡ given (anyOf (visits x)) (report (classesAt x (examined x)))
+unfolding scan examined
+scan-all x = scan-given x (visits x)
+
+pub scan-one : (x : List ℕ) (v : Visit) → scanOf x (v ∷ []) ≡ some (report (classesAt x (wordsOf v)))
+scan-one x v = scan-given x (v ∷ []) ∙ ap (λ (ps : List Pair). some (report (classesAt x ps))) (examined-one v)
+
+module _ (len : ℕ) (all : List Entry) where
+  pub visit-plain : (e : Entry) → isProtected e ≡ false → visitOf len all e ≡ []
+  unfolding visitOf
+  visit-plain e h = rw h
+
+  pub visit-protected : (e : Entry) → isProtected e ≡ true → visitOf len all e ≡ visitWith e (planeOf len all e)
+  unfolding visitOf
+  visit-protected e h = rw h
+
+  pub visits-append : (es fs : List Entry) → visitsOver len all (es ++ fs) ≡ visitsOver len all es ++ visitsOver len all fs
+  unfolding visitsOver
+  visits-append [] fs = refl
+  visits-append (e ∷ es) fs = simp (visits-append es fs, append-assoc)
+
+  -- from entry i on
+  pub visits-from : (es : List Entry) (i : ℕ) → visitsOver len all (drop i es) ≡ visitAt len all (nth i es) ++ visitsOver len all (drop (suc i) es)
+  unfolding visitsOver nth
+  visits-from [] i = rw (drop-nil i)
+  visits-from (e ∷ es) zero = refl
+  visits-from (e ∷ es) (suc i) = visits-from es i
+
+  -- up to entry i
+  pub visits-to : (es : List Entry) (i : ℕ) → visitsOver len all (take (suc i) es) ≡ visitsOver len all (take i es) ++ visitAt len all (nth i es)
+  unfolding visitsOver nth
+  visits-to [] zero = refl
+  visits-to [] (suc i) = refl
+  visits-to (e ∷ es) zero = append-nil (visitOf len all e)
+  visits-to (e ∷ es) (suc i) =
+      ap (λ (vs : List Visit). visitOf len all e ++ vs) (visits-to es i)
+      ∙ sym (append-assoc (visitOf len all e) (visitsOver len all (take i es)) (visitAt len all (nth i es)))
+
+-- ---- scrub: the visits' words in turn, and a mark
+
+abbrev pub mark : Bool → State → State
+mark b s = record { image = s .image; met = s .met; visited = s .visited || b }
+
+words-append : (ps qs : List Pair) (s : State) → scrubWords (ps ++ qs) s ≡ scrubWords qs (scrubWords ps s)
+unfolding scrubWords
+words-append [] qs s = refl
+words-append (p ∷ ps) qs s = words-append ps qs (scrubWord p s)
+
+words-visited : (ps : List Pair) (s : State) → scrubWords ps s .visited ≡ s .visited
+unfolding scrubWords scrubWord
+words-visited [] s = refl
+words-visited (p ∷ ps) s = words-visited ps (scrubWord p s)
+
+-- where one was visited before, more visits are words alone
+more-visits : (vs : List Visit) (s : State) → s .visited ≡ true → scrubVisits vs s ≡ scrubWords (examinedIn vs) s
+unfolding scrubVisits examinedIn scrubWords
+more-visits [] s h = refl
+more-visits (v ∷ vs) s h =
+    let t : State = record { image = s .image; met = s .met; visited = true } in
+    more-visits vs (scrubWords (wordsOf v) t) (words-visited (wordsOf v) t) ∙ sym (words-append (wordsOf v) (examinedIn vs) t)
+    ∙ ap (λ (b : Bool). scrubWords (wordsOf v ++ examinedIn vs) (record { image = s .image; met = s .met; visited = b })) (sym h)
+
+pub visits-words : (vs : List Visit) (s : State) → scrubVisits vs s ≡ scrubWords (examinedIn vs) (mark (anyOf vs) s)
+unfolding scrubVisits examinedIn scrubWords
+visits-words [] s = sym (rw (or-false (s .visited)))
+visits-words (v ∷ vs) s = sym (rw (or-true (s .visited)) (sym (more-visits (v ∷ vs) (record { image = s .image; met = s .met; visited = true }) refl)))

@@ -1,19 +1,18 @@
 -- Laws for code that walks a list of entries from the front: what is left from i on, entry by entry. Assumes nothing.
-use mathlib.Core.Path.{_≡_, refl, sym, ap, ap₂, _∙_}
-use mathlib.Core.Bool.{Bool, true, false, not, _&&_, _||_, cond}
-use mathlib.Core.List.{List, [], _∷_, _++_}
-use mathlib.Core.Option.{Option, none, some}
-use Prim.Native.Nat.{ℕ, zero, suc, _+_, _*_, _≤_, _<_}
+use mathlib.Core.Path.{_≡_, refl, sym, ap, _∙_}
+use mathlib.Core.Bool.{Bool, true, false}
+use mathlib.Core.List.{List, [], _∷_}
+use mathlib.Core.Option.{none, some}
+use Prim.Native.Nat.{ℕ, zero, suc, _+_, _≤_, _<_}
 use native.Mathlib.Nat.{le-of-suc-le-suc, not-suc-le-zero}
 use native.Mathlib.Numerals.{add-one}
 use borrow.Author.Tests.{eq-eqb, ne-eqb, lt-ltb, le-ltb}
-use lib.Dec.{eqb, ltb}
 use lib.ListN.{length, getD, drop}
-use Rattle.paper.specs.Refusals.{Verdict, fine, refuse, refuseIf, _then_}
+use lib.Seq.{drop-nil}
+use Rattle.paper.specs.Refusals.{fine, refuse}
 use Rattle.paper.specs.Layout.{Entry, end}
 use Rattle.paper.specs.Parse.{among, entriesVerdict}
 use Rattle.paper.specs.Views.{nth, firstThat}
-use Rattle.paper.specs.Scan.{isProtected, planeOf, found, regionPairs, pairsOver, visitsAny, Pair}
 
 -- ---- entry e stands at i
 
@@ -49,16 +48,6 @@ module _ (es : List Entry) (i : ℕ) (e : Entry) (s : drop i es ≡ e ∷ drop (
     verdict-next l a =
         sym (rw (s, le-ltb len (end e) l, a) (ap (λ (k : ℕ). entriesVerdict len k (drop (i + 1) es)) (sym (add-one i))))
 
-    pub pairs-here : (all : List Entry)
-        → pairsOver len all (drop i es) ≡ cond (isProtected e) (regionPairs len all e) [] ++ pairsOver len all (drop (i + 1) es)
-    unfolding pairsOver
-    pairs-here all = rw s
-
-    pub visits-here : (all : List Entry)
-        → visitsAny len all (drop i es) ≡ (isProtected e && found (planeOf len all e)) || visitsAny len all (drop (i + 1) es)
-    unfolding visitsAny
-    visits-here all = rw s
-
 -- ---- nothing is left
 
 module _ (es : List Entry) (i : ℕ) (s : drop i es ≡ []) where
@@ -74,14 +63,6 @@ module _ (es : List Entry) (i : ℕ) (s : drop i es ≡ []) where
   unfolding entriesVerdict
   verdict-end len = rw s
 
-  pub pairs-end : (len : ℕ) (all : List Entry) → pairsOver len all (drop i es) ≡ []
-  unfolding pairsOver
-  pairs-end len all = rw s
-
-  pub visits-end : (len : ℕ) (all : List Entry) → visitsAny len all (drop i es) ≡ false
-  unfolding visitsAny
-  visits-end len all = rw s
-
 -- ---- entry i itself
 
 pub nth-in : (es : List Entry) (i : ℕ) (d : Entry) → i < length es → nth i es ≡ some (getD es i d)
@@ -95,3 +76,9 @@ unfolding nth
 nth-past [] i h = refl
 nth-past (e ∷ es) zero h = absurd (not-suc-le-zero h)
 nth-past (e ∷ es) (suc i) h = nth-past es i (le-of-suc-le-suc h)
+
+pub nth-first : (es : List Entry) (i : ℕ) (f : Entry) (fs : List Entry) → drop i es ≡ f ∷ fs → nth i es ≡ some f
+unfolding nth
+nth-first [] i f fs e = let z : [] ≡ f ∷ fs = sym (drop-nil i) ∙ e in cc
+nth-first (g ∷ es) zero f fs e = cc
+nth-first (g ∷ es) (suc i) f fs e = nth-first es i f fs e

@@ -1,13 +1,13 @@
--- Planes, examined words, and the scans' reports. (FORMAT 7)
+-- Planes, visited regions, examined words, and the scans' reports. (FORMAT 7)
 use mathlib.Core.Path.{_≡_}
-use mathlib.Core.Bool.{Bool, true, false, not, _&&_, _||_, cond}
+use mathlib.Core.Bool.{Bool, not, _&&_, cond}
 use mathlib.Core.List.{List, [], _∷_, _++_}
 use mathlib.Core.Option.{Option, none, some}
 use Prim.Native.Nat.{ℕ, zero, suc, _+_, _*_, _/_, min}
 use lib.Dec.{leb, ltb}
 use lib.ListN.{length}
 use Rattle.paper.specs.Bytes.{at, wordAt, given, tab}
-use Rattle.paper.specs.Layout.{hasParity, isPlane, Entry, end, count, directory}
+use Rattle.paper.specs.Layout.{hasParity, isPlane, Entry, end, directory}
 use Rattle.paper.specs.Views.{seen, firstThat, planeFor}
 use Rattle.paper.specs.Parity.{Class, clean, flipped, beyond, decode, Outcome, outcome}
 
@@ -57,6 +57,35 @@ planeWithin len e (some p) = given (leb (end e) len && leb (end p) len) p
 unfoldable pub planeOf : ℕ → List Entry → Entry → Option Entry
 planeOf len all e = planeWithin len e (firstThat (planeFor (e .kind)) all)
 
+-- ---- the regions that a whole scan visits: protected, and with a plane
+
+-- no plane, and flagged 2
+unfoldable pub isProtected : Entry → Bool
+isProtected e = not (isPlane (e .flags)) && hasParity (e .flags)
+
+-- a region and its plane
+pub record Visit : Type 0 where
+  pub region : Entry
+  pub plane : Entry
+
+-- none without a plane
+abbrev pub visitWith : Entry → Option Entry → List Visit
+visitWith e none = []
+visitWith e (some p) = record { region = e; plane = p } ∷ []
+
+-- of one entry: one visit or none
+unfoldable pub visitOf : ℕ → List Entry → Entry → List Visit
+visitOf len all e = cond (isProtected e) (visitWith e (planeOf len all e)) []
+
+-- of the entries in turn; `all` is the directory that the planes are looked up in
+unfoldable pub visitsOver : ℕ → List Entry → List Entry → List Visit
+visitsOver len all [] = []
+visitsOver len all (e ∷ es) = visitOf len all e ++ visitsOver len all es
+
+-- of an image, in directory order
+unfoldable pub visits : List ℕ → List Visit
+visits x = visitsOver (length x) (directory x) (directory x)
+
 -- ---- the examined words, each by its number in the image and the place of its check byte
 
 pub record Pair : Type 0 where
@@ -69,31 +98,23 @@ pairsFrom zero q c = []
 pairsFrom (suc n) q c = record { word = q; check = c } ∷ pairsFrom n (suc q) (suc c)
 
 -- words past the shorter of region and plane are not examined
-abbrev pub pairsWith : Entry → Option Entry → List Pair
-pairsWith e none = []
-pairsWith e (some p) = pairsFrom (min (e .words) (8 * p .words)) (e .offset) (8 * p .offset)
+unfoldable pub wordsOf : Visit → List Pair
+wordsOf v = pairsFrom (min (v .region .words) (8 * v .plane .words)) (v .region .offset) (8 * v .plane .offset)
 
-unfoldable pub regionPairs : ℕ → List Entry → Entry → List Pair
-regionPairs len all e = pairsWith e (planeOf len all e)
+unfoldable pub examinedIn : List Visit → List Pair
+examinedIn [] = []
+examinedIn (v ∷ vs) = wordsOf v ++ examinedIn vs
 
--- no plane, and flagged 2
-unfoldable pub isProtected : Entry → Bool
-isProtected e = not (isPlane (e .flags)) && hasParity (e .flags)
-
-unfoldable pub pairsOver : ℕ → List Entry → List Entry → List Pair
-pairsOver len all [] = []
-pairsOver len all (e ∷ es) = cond (isProtected e) (regionPairs len all e) [] ++ pairsOver len all es
-
--- of an image, in directory order
+-- of an image
 unfoldable pub examined : List ℕ → List Pair
-examined x = pairsOver (length x) (directory x) (directory x)
+examined x = examinedIn (visits x)
 
 -- (q, c) is one of them
 pub data Among (q c : ℕ) : List Pair → Type 0 where
   here : {p : Pair} {ps : List Pair} → p .word ≡ q → p .check ≡ c → Among q c (p ∷ ps)
   later : {p : Pair} {ps : List Pair} → Among q c ps → Among q c (p ∷ ps)
 
--- ---- the scans, of bytes x and a count n that stands beside them
+-- ---- the scans
 
 unfoldable pub classAt : List ℕ → Pair → Class
 classAt x p = decode (wordAt x (p .word)) (at x (p .check))
@@ -102,33 +123,19 @@ unfoldable pub classesAt : List ℕ → List Pair → List Class
 classesAt x [] = []
 classesAt x (p ∷ ps) = classAt x p ∷ classesAt x ps
 
-unfoldable pub reportOf : List ℕ → List Pair → Report
-reportOf x ps = report (classesAt x ps)
-
--- of one region, which need not be flagged 2: nothing without a plane
-abbrev pub scanWith : List ℕ → Entry → Option Entry → Option Report
-scanWith x e none = none
-scanWith x e (some p) = some (reportOf x (pairsWith e (some p)))
-
-unfoldable pub scanRegion : ℕ → List ℕ → Entry → Option Report
-scanRegion n x e = scanWith x e (planeOf (length x) (seen n x) e)
-
-abbrev pub found : Option Entry → Bool
-found none = false
-found (some e) = true
-
--- some region is no plane, is flagged 2 and has a plane
-unfoldable pub visitsAny : ℕ → List Entry → List Entry → Bool
-visitsAny len all [] = false
-visitsAny len all (e ∷ es) = (isProtected e && found (planeOf len all e)) || visitsAny len all es
-
-abbrev pub scanOver : List ℕ → List Entry → Option Report
-scanOver x all = given (visitsAny (length x) all all) (reportOf x (pairsOver (length x) all all))
-
--- the whole scan: nothing where no region is visited
-unfoldable pub scanIn : ℕ → List ℕ → Option Report
-scanIn n x = scanOver x (seen n x)
+-- the report on every word examined; nothing where no region is visited
+unfoldable pub scanOf : List ℕ → List Visit → Option Report
+scanOf x [] = none
+scanOf x (v ∷ vs) = some (report (classesAt x (examinedIn (v ∷ vs))))
 
 -- of an image that parses
 unfoldable pub scan : List ℕ → Option Report
-scan x = scanOver x (directory x)
+scan x = scanOf x (visits x)
+
+-- of bytes x and a count n that stands beside them
+unfoldable pub scanIn : ℕ → List ℕ → Option Report
+scanIn n x = scanOf x (visitsOver (length x) (seen n x) (seen n x))
+
+-- of one region alone, which need not be flagged 2
+unfoldable pub scanRegion : ℕ → List ℕ → Entry → Option Report
+scanRegion n x e = scanOf x (visitWith e (planeOf (length x) (seen n x) e))

@@ -1,25 +1,23 @@
 -- Scrub, as the Rust has it. (FORMAT 8)
-use mathlib.Core.Bool.{Bool, true, false, _&&_, _||_, cond}
+use mathlib.Core.Bool.{Bool, true, false}
 use mathlib.Core.List.{List, [], _∷_}
 use mathlib.Core.Option.{Option, none, some}
-use Prim.Native.Nat.{ℕ, zero, suc, _+_, _*_}
-use lib.ListN.{length, drop}
+use Prim.Native.Nat.{ℕ, zero, suc, _*_}
+use lib.ListN.{length}
 use lib.Seq.{sets}
-use Rattle.paper.specs.Bytes.{le, given}
+use Rattle.paper.specs.Bytes.{le, given, wordAt}
 use Rattle.paper.specs.Refusals.{Verdict, fine, refuse}
 use Rattle.paper.specs.Layout.{count, directory, Entry}
 use Rattle.paper.specs.Parse.{parseVerdict}
+use Rattle.paper.specs.Views.{nth}
 use Rattle.paper.specs.Parity.{Class, clean, flipped, beyond, flipWord}
-use Rattle.paper.specs.Bytes.{wordAt}
-use Rattle.paper.specs.Scan.{Pair, classAt, regionPairs, isProtected, planeOf, found, isCorrected, isLost, Report}
+use Rattle.paper.specs.Scan.{Pair, classAt, Visit, visitOf, wordsOf, Report, report}
 
--- the image and the counts so far
+-- the image as it stands, the classes of the words met, the latest first, and whether a region was visited
 pub record State : Type 0 where
   pub image : List ℕ
-  pub any : Bool
-  pub words : ℕ
-  pub corrected : ℕ
-  pub uncorrectable : ℕ
+  pub met : List Class
+  pub visited : Bool
 
 -- only corrected words are written
 abbrev pub storedWord : Class → Pair → List ℕ → List ℕ
@@ -31,52 +29,42 @@ storedWord beyond p x = x
 unfoldable pub scrubWord : Pair → State → State
 scrubWord p s =
     let c = classAt (s .image) p in
-    record {
-      image = storedWord c p (s .image);
-      any = s .any;
-      words = suc (s .words);
-      corrected = s .corrected + isCorrected c;
-      uncorrectable = s .uncorrectable + isLost c;
-    }
+    record { image = storedWord c p (s .image); met = c ∷ s .met; visited = s .visited }
 
 -- words ascending
 unfoldable pub scrubWords : List Pair → State → State
 scrubWords [] s = s
 scrubWords (p ∷ ps) s = scrubWords ps (scrubWord p s)
 
--- a region that is scrubbed makes for a report
-unfoldable pub visited : ℕ → List Entry → Entry → State → State
-visited len all e s =
-    record {
-      image = s .image;
-      any = s .any || (isProtected e && found (planeOf len all e));
-      words = s .words;
-      corrected = s .corrected;
-      uncorrectable = s .uncorrectable;
-    }
+unfoldable pub scrubVisits : List Visit → State → State
+scrubVisits [] s = s
+scrubVisits (v ∷ vs) s =
+    scrubVisits vs (scrubWords (wordsOf v) (record { image = s .image; met = s .met; visited = true }))
 
--- the first of the entries that are left, if there is one
-abbrev pub scrubFirst : ℕ → List Entry → List Entry → State → State
-scrubFirst len all [] s = s
-scrubFirst len all (e ∷ es) s = scrubWords (cond (isProtected e) (regionPairs len all e) []) (visited len all e s)
+-- an entry, if there is one, of the directory `all` of an image of len bytes
+abbrev pub visitAt : ℕ → List Entry → Option Entry → List Visit
+visitAt len all none = []
+visitAt len all (some e) = visitOf len all e
+
+-- region i of the image as it then stands
+unfoldable pub scrubRegion : ℕ → State → State
+scrubRegion i s =
+    let all = directory (s .image) in
+    scrubVisits (visitAt (length (s .image)) all (nth i all)) s
+
+-- ---- the answer, with the image that is left
 
 pub record Scrubbed : Type 0 where
   pub image : List ℕ
   pub report : Option Report
 
 abbrev pub reported : State → Option Report
-reported s = given (s .any) (record { words = s .words; corrected = s .corrected; uncorrectable = s .uncorrectable })
+reported s = given (s .visited) (report (s .met))
 
 -- a if the image parses, else b
 abbrev pub ifParsed : Verdict → Scrubbed → Scrubbed → Scrubbed
 ifParsed fine a b = a
 ifParsed (refuse k d) a b = b
-
--- region i of the image as it then stands
-unfoldable pub scrubRegion : ℕ → State → State
-scrubRegion i s =
-    let all = directory (s .image) in
-    scrubFirst (length (s .image)) all (drop i all) s
 
 -- n regions from i on, the image parsed afresh before each; where that fails, nothing, with the earlier writes kept
 unfoldable pub scrubFrom : ℕ → ℕ → State → Scrubbed
@@ -89,5 +77,5 @@ scrubFrom (suc n) i s =
 unfoldable pub scrub : List ℕ → Scrubbed
 scrub x =
     ifParsed (parseVerdict x)
-    (scrubFrom (count x) 0 (record { image = x; any = false; words = 0; corrected = 0; uncorrectable = 0 }))
+    (scrubFrom (count x) 0 (record { image = x; met = []; visited = false }))
     (record { image = x; report = none })

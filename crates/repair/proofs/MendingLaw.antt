@@ -1,37 +1,37 @@
 -- The word half, region by region, and mend's answer. Assumes nothing.
 use mathlib.Core.Path.{_≡_, refl, sym, ap, ap₂, _∙_, subst}
-use mathlib.Core.Bool.{Bool, true, false, _&&_, _||_, cond}
-use mathlib.Core.List.{List, [], _∷_, _++_, append-nil, append-assoc}
-use Prim.Native.Nat.{ℕ, zero, suc, _+_, _-_, _*_, _≤_, _<_}
+use mathlib.Core.Bool.{Bool, false, _||_, cond}
+use mathlib.Core.List.{List, [], _∷_, _++_}
+use Prim.Native.Nat.{ℕ, suc, _+_, _-_, _*_, _≤_, _<_}
 use native.Mathlib.Omega.{arith}
 use borrow.Author.Tests.{le-ltb}
 use lib.ListN.{length, take, drop, take-append-drop}
 use lib.Seq.{take-all}
 use Rattle.paper.specs.Bytes.{Bytes}
-use Rattle.paper.specs.Refusals.{fine, refuse, _then_}
-use Rattle.paper.specs.Layout.{Entry, count, headerLength, header, directory, directoryOf}
+use Rattle.paper.specs.Refusals.{fine, refuse}
+use Rattle.paper.specs.Layout.{Entry, count, headerLength, directory, directoryOf}
 use Rattle.paper.specs.Parse.{parseVerdict}
 use Rattle.paper.specs.Views.{nth, seen, regionAt}
-use Rattle.paper.specs.Scan.{Pair, Among, pairsFrom, pairsOver, regionPairs, isProtected, planeOf, found, visitsAny, examined, total, classesAt, reportOf, report, scanOver, scan, scanIn}
+use Rattle.paper.specs.Scan.{Visit, visitsOver, visits, Pair, Among, pairsFrom, examinedIn, examined, total, classesAt, report, scanOf, scan, scanIn}
+use Rattle.paper.specs.Scrub.{visitAt}
 use Rattle.paper.specs.Mend as paper
 use Rattle.paper.specs.Mend.{apartVerdict, mendVerdict, fixAt, fixAll, mendBytes, changed, mend}
 use Rattle.paper.proofs.ParseLaw.{accepted-long}
 use Rattle.paper.proofs.LayoutLaw.{length-directoryOf}
+use Rattle.paper.proofs.ScanLaw.{anyOf, any-append, examined-append, scan-all, visits-append, visits-to}
 use Rattle.view.proofs.SeenLaw.{seen-long}
 use Rattle.laws.specs.Steps.{mendHeader, mendWords}
-use Rattle.laws.proofs.HeaderLaw.{SameHeader, header-kept, same-directory}
+use Rattle.laws.proofs.HeaderLaw.{SameHeader, header-kept, same-directory, same-visits}
 use Rattle.laws.proofs.HeaderHalf.{header-keeps, header-verdict, header-size, header-then-words, header-examined, header-word, header-check}
 use Rattle.laws.proofs.PairLaw.{among-left, classes-ext}
-use Rattle.laws.proofs.PlanPairs.{over-append}
 use Rattle.laws.proofs.Fold.{AllApart, nil, cons, all-length, all-other, fixAll-append}
 use Rattle.laws.proofs.Apart.{accepted, apart, past}
 use Rattle.laws.proofs.StoredLaw.{stored-count}
-use Rattle.scan.proofs.TotalLaw.{or-false}
 use Rattle.repair.proofs.SettleLaw.{header-part}
 use Rattle.repair.proofs.MetLaw.{met-append, met-apart, tally-append}
 use Rattle.repair.specs.declared.counts.Counts.{Counts}
 use Rattle.repair.specs.Answers.{reportedBy, visitedBy, plus, tally, met, scanned}
-use Rattle.repair.specs.Runs.{entryPairs, entryVisited, pairsAt, visitsAt}
+use Rattle.repair.specs.Runs.{visitsAt}
 
 -- ---- a run of words
 
@@ -55,72 +55,58 @@ apart-left : {len : ℕ} (xs ys : List Pair) → AllApart len (xs ++ ys) → All
 apart-left [] ys a = nil
 apart-left (p ∷ xs) ys (cons s f r) = cons s (λ q c m. f q c (among-left xs ys m)) (apart-left xs ys r)
 
-over-next : (len : ℕ) (all es : List Entry) (i : ℕ) → pairsOver len all (take (suc i) es) ≡ pairsOver len all (take i es) ++ entryPairs len all (nth i es)
-unfolding pairsOver nth
-over-next len all [] zero = refl
-over-next len all [] (suc i) = refl
-over-next len all (e ∷ es) zero = append-nil (cond (isProtected e) (regionPairs len all e) [])
-over-next len all (e ∷ es) (suc i) =
-    ap (λ (ps : List Pair). cond (isProtected e) (regionPairs len all e) [] ++ ps) (over-next len all es i)
-    ∙ sym (append-assoc (cond (isProtected e) (regionPairs len all e) []) (pairsOver len all (take i es)) (entryPairs len all (nth i es)))
-
 length-directory : (x : List ℕ) → length (directory x) ≤ count x
 unfolding directory
 length-directory x = omega (arith, length-directoryOf (count x) x)
 
-visits-next : (len : ℕ) (all es : List Entry) (i : ℕ) → visitsAny len all (take (suc i) es) ≡ visitsAny len all (take i es) || entryVisited len all (nth i es)
-unfolding visitsAny nth
-visits-next len all [] zero = refl
-visits-next len all [] (suc i) = refl
-visits-next len all (e ∷ es) zero = or-false (isProtected e && found (planeOf len all e))
-visits-next len all (e ∷ es) (suc i) =
-    let t = isProtected e && found (planeOf len all e) in
-    ap (λ (u : Bool). t || u) (visits-next len all es i) ∙ sym (or-assoc t (visitsAny len all (take i es)) (entryVisited len all (nth i es)))
-  where
-    or-assoc : (a b c : Bool) → (a || b) || c ≡ a || (b || c)
-    or-assoc true b c = refl
-    or-assoc false b c = refl
+abbrev firstVisits : List ℕ → ℕ → List Visit
+firstVisits x i = visitsOver (length x) (directory x) (take i (directory x))
 
-abbrev firstPairs : List ℕ → ℕ → List Pair
-firstPairs x i = pairsOver (length x) (directory x) (take i (directory x))
+all-visits : (x : List ℕ) (i : ℕ) → count x ≤ i → firstVisits x i ≡ visits x
+unfolding visits
+all-visits x i h = ap (visitsOver (length x) (directory x)) (take-all i (directory x) (omega (arith, length-directory x)))
 
 unfoldable pub fixedTo : List ℕ → ℕ → List ℕ
-fixedTo x i = fixAll (firstPairs x i) x
+fixedTo x i = fixAll (examinedIn (firstVisits x i)) x
 
 -- what is counted by then
 unfoldable pub tallied : List ℕ → ℕ → Counts
-tallied x i = tally (visitsAny (length x) (directory x) (take i (directory x))) (met x (firstPairs x i))
+tallied x i = tally (anyOf (firstVisits x i)) (met x (examinedIn (firstVisits x i)))
 
 pub none-fixed : (x : List ℕ) → fixedTo x 0 ≡ x
-unfolding fixedTo fixAll pairsOver
+unfolding fixedTo fixAll visitsOver examinedIn
 none-fixed x = refl
 
 pub none-tallied : (x : List ℕ) → tallied x 0 ≡ record { any = false; words = 0; corrected = 0; uncorrectable = 0 }
-unfolding tallied met pairsOver visitsAny total
+unfolding tallied met visitsOver examinedIn total
 none-tallied x = refl
 
 module _ (x : List ℕ) (v : mendVerdict x ≡ fine) (b : Bytes x) where
-  restPairs : ℕ → List Pair
-  restPairs i = pairsOver (length x) (directory x) (drop i (directory x))
+  first : ℕ → List Pair
+  first i = examinedIn (firstVisits x i)
 
-  split : (i : ℕ) → examined x ≡ firstPairs x i ++ restPairs i
-  unfolding examined restPairs
+  rest : ℕ → List Pair
+  rest i = examinedIn (visitsOver (length x) (directory x) (drop i (directory x)))
+
+  split : (i : ℕ) → examined x ≡ first i ++ rest i
+  unfolding examined visits first rest
   split i =
-      ap (pairsOver (length x) (directory x)) (sym (take-append-drop i (directory x)))
-      ∙ over-append (length x) (directory x) (take i (directory x)) (drop i (directory x))
+      ap (λ (es : List Entry). examinedIn (visitsOver (length x) (directory x) es)) (sym (take-append-drop i (directory x)))
+      ∙ ap examinedIn (visits-append (length x) (directory x) (take i (directory x)) (drop i (directory x)))
+      ∙ examined-append (firstVisits x i) (visitsOver (length x) (directory x) (drop i (directory x)))
 
-  first-apart : (i : ℕ) → AllApart (length x) (firstPairs x i)
-  first-apart i = apart-left (firstPairs x i) (restPairs i) (subst (AllApart (length x)) (split i) (apart x v))
+  first-apart : (i : ℕ) → AllApart (length x) (first i)
+  first-apart i = apart-left (first i) (rest i) (subst (AllApart (length x)) (split i) (apart x v))
 
-  first-past : (i q c : ℕ) → Among q c (firstPairs x i) → (headerLength (count x) ≤ 8 * q) × (headerLength (count x) ≤ c)
-  first-past i q c m = past x v q c (subst (Among q c) (sym (split i)) (among-left (firstPairs x i) (restPairs i) m))
+  first-past : (i q c : ℕ) → Among q c (first i) → (headerLength (count x) ≤ 8 * q) × (headerLength (count x) ≤ c)
+  first-past i q c m = past x v q c (subst (Among q c) (sym (split i)) (among-left (first i) (rest i) m))
 
   pub fixed-length : (i : ℕ) → length (fixedTo x i) ≡ length x
-  unfolding fixedTo
+  unfolding fixedTo first
   fixed-length i = all-length (length x) x b refl (first-apart i)
 
   same : (i : ℕ) → SameHeader (fixedTo x i) x
-  unfolding fixedTo
+  unfolding fixedTo first
   same i = header-kept x (fixedTo x i) (λ p h. all-other (length x) x b refl (first-apart i) p
       (λ q c m e. let g = first-past i q c m .0 in omega arith) (λ q c m e. let g = first-past i q c m .1 in omega arith))
 
@@ -135,38 +121,48 @@ module _ (x : List ℕ) (v : mendVerdict x ≡ fine) (b : Bytes x) where
       ∙ fixed-directory i
 
   -- entry i of the image as it stands is entry i of x
-  pub fixed-next : (i : ℕ) (y : List ℕ) → y ≡ fixedTo x i → fixAll (pairsAt (count x) y i) y ≡ fixedTo x (suc i)
-  unfolding regionAt fixedTo
+  next-visit : ℕ → List Visit
+  next-visit i = visitAt (length x) (directory x) (nth i (directory x))
+
+  fixed-visit : (i : ℕ) (y : List ℕ) → y ≡ fixedTo x i → visitsAt (count x) y i ≡ next-visit i
+  unfolding regionAt next-visit
+  fixed-visit i y e =
+      ap (λ (z : List ℕ). visitsAt (count x) z i) e ∙ ap₂ (λ (n : ℕ) (es : List Entry). visitAt n es (nth i es)) (fixed-length i) (fixed-seen i)
+
+  first-next : (i : ℕ) → firstVisits x (suc i) ≡ firstVisits x i ++ next-visit i
+  unfolding next-visit
+  first-next i = visits-to (length x) (directory x) (directory x) i
+
+  words-next : (i : ℕ) → examinedIn (firstVisits x (suc i)) ≡ first i ++ examinedIn (next-visit i)
+  unfolding first
+  words-next i = ap examinedIn (first-next i) ∙ examined-append (firstVisits x i) (next-visit i)
+
+  pub fixed-next : (i : ℕ) (y : List ℕ) → y ≡ fixedTo x i → fixAll (examinedIn (visitsAt (count x) y i)) y ≡ fixedTo x (suc i)
+  unfolding fixedTo first
   fixed-next i y e =
-      ap (λ (z : List ℕ). fixAll (pairsAt (count x) z i) z) e
-      ∙ ap₂ (λ (n : ℕ) (es : List Entry). fixAll (entryPairs n es (nth i es)) (fixedTo x i)) (fixed-length i) (fixed-seen i)
-      ∙ sym (fixAll-append (firstPairs x i) (entryPairs (length x) (directory x) (nth i (directory x))) x)
-      ∙ ap (λ (qs : List Pair). fixAll qs x) (sym (over-next (length x) (directory x) (directory x) i))
+      ap₂ (λ (vs : List Visit) (z : List ℕ). fixAll (examinedIn vs) z) (fixed-visit i y e) e
+      ∙ sym (ap (λ (ps : List Pair). fixAll ps x) (words-next i) ∙ fixAll-append (first i) (examinedIn (next-visit i)) x)
 
   -- and is counted as a scan of x counts it
   pub tally-next : (i : ℕ) (y : List ℕ) (c : Counts) → y ≡ fixedTo x i → c ≡ tallied x i
-      → plus (visitedBy c (visitsAt (count x) y i)) (met y (pairsAt (count x) y i)) ≡ tallied x (suc i)
-  unfolding regionAt tallied
+      → plus (visitedBy c (anyOf (visitsAt (count x) y i))) (met y (examinedIn (visitsAt (count x) y i))) ≡ tallied x (suc i)
+  unfolding tallied fixedTo first
   tally-next i y c e f =
-      let es = directory x in
-      let qs = entryPairs (length x) es (nth i es) in
-      ap₂ (λ (z : List ℕ) (t : Counts). plus (visitedBy t (visitsAt (count x) z i)) (met z (pairsAt (count x) z i))) e f
-      ∙ ap₂ (λ (n : ℕ) (all : List Entry). plus (visitedBy (tallied x i) (entryVisited n all (nth i all))) (met (fixedTo x i) (entryPairs n all (nth i all)))) (fixed-length i) (fixed-seen i)
-      ∙ tally-append (visitsAny (length x) es (take i es) || entryVisited (length x) es (nth i es)) (met x (firstPairs x i)) (met (fixedTo x i) qs)
-      ∙ ap₂ tally (sym (visits-next (length x) es es i)) (sym (met-first i qs) ∙ ap (met x) (sym (over-next (length x) es es i)))
-    where
-      met-first : (i : ℕ) (qs : List Pair) → met x (firstPairs x i ++ qs) ≡ met x (firstPairs x i) ++ met (fixedTo x i) qs
-      met-first i qs = unfold fixedTo in met-append x (firstPairs x i) qs
+      let vs = next-visit i in
+      ap (λ (ws : List Visit). plus (visitedBy c (anyOf ws)) (met y (examinedIn ws))) (fixed-visit i y e)
+      ∙ ap₂ (λ (t : Counts) (z : List ℕ). plus (visitedBy t (anyOf vs)) (met z (examinedIn vs))) f e
+      ∙ tally-append (anyOf (firstVisits x i) || anyOf vs) (met x (first i)) (met (fixAll (first i) x) (examinedIn vs))
+      ∙ sym (ap₂ tally (ap anyOf (first-next i) ∙ any-append (firstVisits x i) vs) (ap (met x) (words-next i) ∙ met-append x (first i) (examinedIn vs)))
 
   pub tally-all : (i : ℕ) → count x ≤ i → tallied x i ≡ scanned x
   unfolding tallied scanned examined
   tally-all i h =
-      ap (λ (es : List Entry). tally (visitsAny (length x) (directory x) es) (met x (pairsOver (length x) (directory x) es))) (take-all i (directory x) (omega (arith, length-directory x)))
-      ∙ ap (tally (visitsAny (length x) (directory x) (directory x))) (met-apart (length x) x b refl (apart x v))
+      ap (λ (vs : List Visit). tally (anyOf vs) (met x (examinedIn vs))) (all-visits x i h)
+      ∙ ap (tally (anyOf (visits x))) (met-apart (length x) x b refl (apart x v))
 
 pub all-fixed : (x : List ℕ) (i : ℕ) → count x ≤ i → fixedTo x i ≡ mendWords x
 unfolding fixedTo mendWords examined
-all-fixed x i h = ap (λ (es : List Entry). fixAll (pairsOver (length x) (directory x) es) x) (take-all i (directory x) (omega (arith, length-directory x)))
+all-fixed x i h = ap (λ (vs : List Visit). fixAll (examinedIn vs) x) (all-visits x i h)
 
 -- ---- of an image that mend accepts
 
@@ -175,12 +171,12 @@ unfolding directory
 seen-is x h = seen-long (count x) x (accepted-long x h)
 
 pub scanned-report : (x : List ℕ) → reportedBy (scanned x) ≡ scan x
-unfolding scanned scan examined reportOf report
-scanned-report x = refl
+unfolding scanned report
+scanned-report x = sym (scan-all x)
 
 pub scan-is : (x : List ℕ) → parseVerdict x ≡ fine → scanIn (count x) x ≡ scan x
-unfolding scanIn scan
-scan-is x h = ap (scanOver x) (seen-is x h)
+unfolding scanIn scan visits
+scan-is x h = ap (λ (es : List Entry). scanOf x (visitsOver (length x) es es)) (seen-is x h)
 
 module _ (x : List ℕ) (v : mendVerdict x ≡ fine) (b : Bytes x) where
   pub mended-all : mendWords (mendHeader x) ≡ mendBytes x
@@ -195,7 +191,7 @@ module _ (x : List ℕ) (v : mendVerdict x ≡ fine) (b : Bytes x) where
   pub header-scanned : scanned (mendHeader x) ≡ scanned x
   unfolding scanned
   header-scanned =
-      ap₂ tally (ap₂ (λ (n : ℕ) (es : List Entry). visitsAny n es es) (header-size x v b) (same-directory (mendHeader x) x (header-keeps x v b)))
+      ap₂ tally (ap anyOf (same-visits (mendHeader x) x (header-size x v b) (header-keeps x v b)))
       (ap (classesAt (mendHeader x)) (header-examined x v b)
       ∙ classes-ext x (mendHeader x) (examined x) (λ q c m. (header-word x v b q c m, header-check x v b q c m)))
 

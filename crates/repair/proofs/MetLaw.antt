@@ -3,13 +3,13 @@ use mathlib.Core.Path.{_≡_, refl, sym, ap, _∙_, subst}
 use mathlib.Core.Bool.{Bool}
 use mathlib.Core.List.{List, [], _∷_, _++_}
 use Prim.Native.Nat.{ℕ, suc, _+_, _-_, _≤_, _<_}
-use native.Mathlib.Nat.{zero-add, add-assoc}
 use native.Mathlib.Omega.{arith}
 use lib.ListN.{length, length-append}
 use Rattle.paper.specs.Bytes.{at, wordAt, Bytes}
 use Rattle.paper.specs.Parity.{Class, clean, flipped, beyond, decode, Outcome, outcomeAs, outcome}
 use Rattle.paper.specs.Scan.{Pair, pairsFrom, isCorrected, isLost, total, classAt, classesAt}
 use Rattle.paper.specs.Mend.{fixAt, fixAll}
+use Rattle.paper.proofs.ScanLaw.{total-append}
 use Rattle.laws.proofs.PairLaw.{classes-ext}
 use Rattle.laws.proofs.Fold.{Inside, AllApart, nil, cons, fix-bytes, fix-length, fix-free}
 use Rattle.repair.specs.declared.counts.Counts.{Counts}
@@ -30,6 +30,12 @@ count-next t beyond w ks = same-counts (t .any) (omega arith) (omega arith) (ome
 count-none : (t : Counts) → plus t [] ≡ t
 unfolding total
 count-none t = same-counts (t .any) (omega arith) (omega arith) (omega arith)
+
+pub counted-tally : (v : Bool) (ks : List Class) (k : Class) (w : ℕ) → counted (tally v ks) (outcomeAs k w) ≡ tally v (k ∷ ks)
+unfolding total
+counted-tally v ks clean w = same-counts v (omega arith) (omega arith) (omega arith)
+counted-tally v ks (flipped i) w = same-counts v (omega arith) (omega arith) (omega arith)
+counted-tally v ks beyond w = same-counts v (omega arith) (omega arith) (omega arith)
 
 -- ---- a run of words
 
@@ -55,11 +61,6 @@ pub met-append : (x : List ℕ) (ps qs : List Pair) → met x (ps ++ qs) ≡ met
 unfolding met fixAll
 met-append x [] qs = refl
 met-append x (p ∷ ps) qs = ap (λ (ks : List Class). classAt x p ∷ ks) (met-append (fixAt p x) ps qs)
-
-total-append : (f : Class → ℕ) (ks js : List Class) → total f (ks ++ js) ≡ total f ks + total f js
-unfolding total
-total-append f [] js = sym (zero-add (total f js))
-total-append f (k ∷ ks) js = ap (λ (n : ℕ). f k + n) (total-append f ks js) ∙ sym (add-assoc (f k) (total f ks) (total f js))
 
 pub tally-append : (v : Bool) (ks js : List Class) → plus (tally v ks) js ≡ tally v (ks ++ js)
 tally-append v ks js =

@@ -1,18 +1,18 @@
 -- The run of an entry, as its plane's place and its own bounds tell. Assumes nothing.
-use mathlib.Core.Path.{_≡_, refl, sym, ap, ap₂, _∙_, subst}
-use mathlib.Core.Bool.{Bool, true, false, not, _&&_, cond}
+use mathlib.Core.Path.{_≡_, sym, ap, ap₂, _∙_, subst}
+use mathlib.Core.Bool.{Bool, true, false}
 use mathlib.Core.List.{List, []}
-use mathlib.Core.Option.{Option, none, some}
+use mathlib.Core.Option.{none, some}
 use Prim.Native.Nat.{ℕ, _+_, _-_, _*_, _^_, _≤_, _<_, min}
 use native.Mathlib.Nat.{min-le-left, min-le-right}
 use native.Mathlib.Omega.{arith}
-use lib.Dec.{leb}
 use lib.ListN.{length}
-use Rattle.paper.specs.Bytes.{given}
-use Rattle.paper.specs.Layout.{Entry, start, end, isPlane, hasParity}
-use Rattle.paper.specs.Views.{Range, range, span, noSpan, bytesSpan, firstThat, planeFor, seen, eccFor, placeWithin, regionAt}
-use Rattle.paper.specs.Scan.{pairsFrom, pairsWith, planeOf, planeWithin, found, isProtected, regionPairs}
+use Rattle.paper.specs.Layout.{isPlane, hasParity}
+use Rattle.paper.specs.Views.{bytesSpan, firstThat, planeFor, seen, eccFor, regionAt}
+use Rattle.paper.specs.Scan.{pairsFrom, planeOf, Visit, visitWith, visitOf, wordsOf, examinedIn}
+use Rattle.paper.specs.Scrub.{visitAt}
 use Rattle.paper.proofs.PlaneLaw as plane-law
+use Rattle.paper.proofs.ScanLaw.{anyOf, examined-one, visit-plain, visit-protected}
 use Rattle.error.specs.declared.Refusal.{Refusal}
 use Rattle.layout.specs.declared.Region.{Region}
 use Rattle.layout.specs.Regions.{asEntry, regionOf}
@@ -25,19 +25,20 @@ use Rattle.view.specs.Answers.{foundAs}
 use Rattle.view.specs.declared.regions.RegionAt.{RegionAt}
 use Rattle.view.specs.declared.regions.RegionAt.the-variants as is
 use Rattle.view.proofs.AnswersLaw.{found-some, found-none}
+use Rattle.scan.proofs.RegionLaw.{same-visit}
+use Rattle.scan.proofs.TotalLaw.{plane-plain, bare-plain, protected-is}
 use Rattle.repair.specs.declared.runs.Run.{Run}
-use Rattle.repair.specs.Runs.{entryPairs, entryVisited, IsRun, IsRunOf}
+use Rattle.repair.specs.Runs.{visitsAt, IsRun}
 
 abbrev pub noRun : Run
 noRun = record { visited = false; word = 0; check = 0; words = 0 }
 
--- ---- a protected region
+pub empty-run : (x : List ℕ) (vs : List Visit) (q : Run) → q ≡ noRun → vs ≡ [] → IsRun x vs q
+unfolding pairsFrom examinedIn
+empty-run x vs q e f =
+    subst (IsRun x vs) (sym e) (record { pairs = rw f; visits = rw f; data-fits = omega arith; checks-fit = omega arith; few = omega arith })
 
-pub without-run : (n : ℕ) (x : List ℕ) (e : Entry) (r : Run) → r ≡ noRun → planeOf (length x) (seen n x) e ≡ none → IsRunOf n x e r
-unfolding regionPairs pairsFrom
-without-run n x e r f g =
-    subst (IsRunOf n x e) (sym f)
-    (record { pairs = rw g; visits = rw g; data-fits = omega arith; checks-fit = omega arith; few = omega arith })
+-- ---- a protected region
 
 -- pl is the place of the plane of r's kind, and sp r's own span
 module _ (n : ℕ) (x : List ℕ) (r : Region) (pl : Place) (sp : PartSpan) (ep : asPlace pl ≡ eccFor n x (r .kind)) (es : asSpan sp ≡ bytesSpan (length x) (asEntry r)) where
@@ -68,23 +69,24 @@ module _ (n : ℕ) (x : List ℕ) (r : Region) (pl : Place) (sp : PartSpan) (ep 
     unfolding planeOf
     is-plane = plane .is
 
-    same-pairs : pairsFrom (min (r .«word_length») (b - a)) (r .«word_offset») a ≡ regionPairs (length x) (seen n x) (asEntry r)
-    unfolding regionPairs
+    same-pairs : pairsFrom (min (r .«word_length») (b - a)) (r .«word_offset») a ≡ wordsOf (record { region = asEntry r; plane = plane .plane })
+    unfolding wordsOf
     same-pairs =
         let p = plane in
         let w : b - a ≡ 8 * p .plane .words = omega (arith, p .first, p .past) in
-        ap₂ (λ (m k : ℕ). pairsFrom (min (r .«word_length») m) (r .«word_offset») k) w (p .first) ∙ ap (pairsWith (asEntry r)) (sym is-plane)
+        ap₂ (λ (m k : ℕ). pairsFrom (min (r .«word_length») m) (r .«word_offset») k) w (p .first)
 
     -- as many words as region and plane both have
     pub the-run : (m : ℕ) → m ≡ min (r .«word_length») (b - a) → r .«word_length» < 2 ^ 32
-        → IsRunOf n x (asEntry r) (record { visited = true; word = r .«word_offset»; check = a; words = m })
+        → IsRun x (visitWith (asEntry r) (planeOf (length x) (seen n x) (asEntry r))) (record { visited = true; word = r .«word_offset»; check = a; words = m })
     the-run m e l =
         let p = plane in
         let g : m ≤ r .«word_length» = omega (arith, min-le-left (r .«word_length») (b - a)) in
         let h : m ≤ b - a = omega (arith, min-le-right (r .«word_length») (b - a)) in
+        let vs : visitWith (asEntry r) (planeOf (length x) (seen n x) (asEntry r)) ≡ visitWith (asEntry r) (some (p .plane)) = ap (visitWith (asEntry r)) is-plane in
         record {
-          pairs = ap (λ (k : ℕ). pairsFrom k (r .«word_offset») a) e ∙ same-pairs;
-          visits = sym (ap found is-plane);
+          pairs = ap (λ (k : ℕ). pairsFrom k (r .«word_offset») a) e ∙ same-pairs ∙ sym (ap examinedIn vs ∙ examined-one (record { region = asEntry r; plane = p .plane }));
+          visits = sym (ap anyOf vs);
           data-fits = omega (arith, ends);
           checks-fit = omega (arith, p .first, p .past, p .fits);
           few = omega arith;
@@ -92,75 +94,35 @@ module _ (n : ℕ) (x : List ℕ) (r : Region) (pl : Place) (sp : PartSpan) (ep 
 
 -- ---- a region that is handed out for entry i
 
-same-plane : (len : ℕ) (all : List Entry) (e : Entry) → planeOf len all (asEntry (regionOf e)) ≡ planeOf len all e
-unfolding planeOf
-same-plane len all e = go (firstThat (planeFor (e .kind)) all)
-  where
-    go : (o : Option Entry) → planeWithin len (asEntry (regionOf e)) o ≡ planeWithin len e o
-    go none = refl
-    go (some p) = refl
-
-same-region : (len : ℕ) (all : List Entry) (e : Entry) → regionPairs len all (asEntry (regionOf e)) ≡ regionPairs len all e
-unfolding regionPairs
-same-region len all e = ap (pairsWith (asEntry (regionOf e))) (same-plane len all e) ∙ go (planeOf len all e)
-  where
-    go : (o : Option Entry) → pairsWith (asEntry (regionOf e)) o ≡ pairsWith e o
-    go none = refl
-    go (some p) = refl
-
 module _ (n : ℕ) (x : List ℕ) (i : ℕ) (r : RegionAt) (f : r ≡ foundAs (regionAt n x i)) where
-  empty-run : (q : Run) → q ≡ noRun → entryPairs (length x) (seen n x) (regionAt n x i) ≡ [] → entryVisited (length x) (seen n x) (regionAt n x i) ≡ false → IsRun n x i q
-  unfolding pairsFrom
-  empty-run q e g h =
-      subst (IsRun n x i) (sym e)
-      (record { pairs = sym g; visits = sym h; data-fits = omega arith; checks-fit = omega arith; few = omega arith })
-
-  pub not-there : r ≡ is.Nothing → (q : Run) → q ≡ noRun → IsRun n x i q
-  not-there g q e =
-      let z = found-none (regionAt n x i) (sym g ∙ f) in
-      empty-run q e (ap (entryPairs (length x) (seen n x)) z) (ap (entryVisited (length x) (seen n x)) z)
+  pub not-there : r ≡ is.Nothing → (q : Run) → q ≡ noRun → IsRun x (visitsAt n x i) q
+  not-there g q e = empty-run x (visitsAt n x i) q e (ap (visitAt (length x) (seen n x)) (found-none (regionAt n x i) (sym g ∙ f)))
 
   module _ (p : Region) (g : r ≡ is.Found p) where
-    entry : (e : Entry) × (regionAt n x i ≡ some e) × (p ≡ regionOf e)
-    entry = found-some (regionAt n x i) p (sym g ∙ f)
-
-    flags-are : p .flags ≡ entry .0 .flags
-    flags-are = ap (λ (q : Region). q .flags) (entry .2)
-
-    plain-run : isProtected (entry .0) ≡ false → (q : Run) → q ≡ noRun → IsRun n x i q
-    plain-run h q e =
-        empty-run q e
-        (ap (entryPairs (length x) (seen n x)) (entry .1) ∙ ap (λ (t : Bool). cond t (regionPairs (length x) (seen n x) (entry .0)) []) h)
-        (ap (entryVisited (length x) (seen n x)) (entry .1) ∙ ap (λ (t : Bool). t && found (planeOf (length x) (seen n x) (entry .0))) h)
-
-    pub a-plane : (t : Bool) → t ≡ isPlane (p .flags) → t ≡ true → (q : Run) → q ≡ noRun → IsRun n x i q
-    unfolding isProtected
-    a-plane t e h = plain-run (rw (sym (ap isPlane flags-are) ∙ sym e ∙ h))
-
-    pub unprotected : (t : Bool) → t ≡ hasParity (p .flags) → t ≡ false → (q : Run) → q ≡ noRun → IsRun n x i q
-    unfolding isProtected
-    unprotected t e h = plain-run (rw (sym (ap hasParity flags-are) ∙ sym e ∙ h) (and-false (not (isPlane (entry .0 .flags)))))
-      where
-        and-false : (u : Bool) → u && false ≡ false
-        and-false true = refl
-        and-false false = refl
-
-    pub protected : (t u : Bool) → t ≡ isPlane (p .flags) → t ≡ false → u ≡ hasParity (p .flags) → u ≡ true
-        → (q : Run) → IsRunOf n x (asEntry p) q → IsRun n x i q
-    unfolding isProtected
-    protected t u et ht eu hu q k =
-        let e = entry .0 in
-        let b : isProtected e ≡ true = rw (sym (ap isPlane flags-are) ∙ sym et ∙ ht, sym (ap hasParity flags-are) ∙ sym eu ∙ hu) in
-        let len = length x in
-        let all = seen n x in
+    at-region : (q : Run) → IsRun x (visitOf (length x) (seen n x) (asEntry p)) q → IsRun x (visitsAt n x i) q
+    at-region q k =
+        let e = found-some (regionAt n x i) p (sym g ∙ f) in
+        let s = same-visit (length x) (seen n x) (e .0) in
+        let vs : visitOf (length x) (seen n x) (asEntry p) ≡ visitOf (length x) (seen n x) (asEntry (regionOf (e .0))) = ap (λ (z : Region). visitOf (length x) (seen n x) (asEntry z)) (e .2) in
+        let there : visitsAt n x i ≡ visitOf (length x) (seen n x) (e .0) = ap (visitAt (length x) (seen n x)) (e .1) in
         record {
-          pairs =
-              k .pairs ∙ ap (λ (z : Region). regionPairs len all (asEntry z)) (entry .2) ∙ same-region len all e
-              ∙ sym (ap (entryPairs len all) (entry .1) ∙ ap (λ (z : Bool). cond z (regionPairs len all e) []) b);
-          visits =
-              k .visits ∙ ap (λ (z : Region). found (planeOf len all (asEntry z))) (entry .2) ∙ ap found (same-plane len all e)
-              ∙ sym (ap (entryVisited len all) (entry .1) ∙ ap (λ (z : Bool). z && found (planeOf len all e)) b);
+          pairs = k .pairs ∙ ap examinedIn vs ∙ s .0 ∙ sym (ap examinedIn there);
+          visits = k .visits ∙ ap anyOf vs ∙ s .1 ∙ sym (ap anyOf there);
           data-fits = k .data-fits;
           checks-fit = k .checks-fit;
           few = k .few;
         }
+
+    pub a-plane : (t : Bool) → t ≡ isPlane (p .flags) → t ≡ true → (q : Run) → q ≡ noRun → IsRun x (visitsAt n x i) q
+    a-plane t e h q z =
+        at-region q (empty-run x (visitOf (length x) (seen n x) (asEntry p)) q z (visit-plain (length x) (seen n x) (asEntry p) (plane-plain (asEntry p) (sym e ∙ h))))
+
+    pub unprotected : (t : Bool) → t ≡ hasParity (p .flags) → t ≡ false → (q : Run) → q ≡ noRun → IsRun x (visitsAt n x i) q
+    unprotected t e h q z =
+        at-region q (empty-run x (visitOf (length x) (seen n x) (asEntry p)) q z (visit-plain (length x) (seen n x) (asEntry p) (bare-plain (asEntry p) (sym e ∙ h))))
+
+    pub protected : (t u : Bool) → t ≡ isPlane (p .flags) → t ≡ false → u ≡ hasParity (p .flags) → u ≡ true
+        → (q : Run) → IsRun x (visitWith (asEntry p) (planeOf (length x) (seen n x) (asEntry p))) q → IsRun x (visitsAt n x i) q
+    protected t u et ht eu hu q k =
+        at-region q
+        (subst (λ (vs : List Visit). IsRun x vs q) (sym (visit-protected (length x) (seen n x) (asEntry p) (protected-is (asEntry p) (sym et ∙ ht) (sym eu ∙ hu)))) k)

@@ -1,29 +1,27 @@
 -- Scrub, word by word and region by region. Assumes nothing.
-use mathlib.Core.Path.{_≡_, refl, ap₂, _∙_}
-use mathlib.Core.Bool.{Bool, false, _||_, cond}
+use mathlib.Core.Path.{_≡_, refl, sym, ap, ap₂, _∙_, subst}
+use mathlib.Core.Bool.{Bool, false}
 use mathlib.Core.List.{List, [], _∷_}
-use mathlib.Core.Option.{Option, none, some}
+use mathlib.Core.Option.{none}
 use Prim.Native.Nat.{ℕ, suc, _+_, _-_, _*_, _^_, _≤_, _<_}
-use native.Mathlib.Nat.{add-zero}
-use native.Mathlib.Numerals.{add-one}
 use native.Mathlib.Omega.{arith}
-use lib.ListN.{length, drop}
+use lib.ListN.{length}
 use borrow.Author.Tests.{le-ltb}
 use lib.Seq.{length-sets}
 use Rattle.paper.specs.Bytes.{at, wordAt, le}
 use Rattle.paper.specs.Parity.{Class, clean, flipped, beyond, flipWord, decode, Outcome, cleanWord, correctedWord, uncorrectableWord, outcomeAs, outcome}
 use Rattle.paper.specs.Refusals.{fine, refuse}
-use Rattle.paper.specs.Layout.{Entry, headerLength, count, directory}
+use Rattle.paper.specs.Layout.{headerLength, count, directory}
 use Rattle.paper.specs.Parse.{parseVerdict}
-use Rattle.paper.specs.Views.{seen, nth, regionAt}
-use Rattle.paper.specs.Scan.{Pair, pairsFrom, classAt, isCorrected, isLost, isProtected, regionPairs}
-use Rattle.paper.specs.Scrub.{State, storedWord, scrubWord, scrubWords, visited, scrubFirst, scrubRegion, scrubFrom, reported, scrub}
+use Rattle.paper.specs.Views.{seen, regionAt}
+use Rattle.paper.specs.Scan.{Pair, pairsFrom, examinedIn, classAt, isCorrected, total, report}
+use Rattle.paper.specs.Scrub.{State, storedWord, scrubWord, scrubWords, scrubVisits, scrubRegion, scrubFrom, reported, scrub}
 use Rattle.paper.proofs.ParseLaw.{accepted-long}
+use Rattle.paper.proofs.ScanLaw.{anyOf, mark, visits-words}
 use Rattle.repair.specs.declared.counts.Counts.{Counts}
-use Rattle.repair.specs.Answers.{asState, scrubIn, Room, counted}
-use Rattle.scan.proofs.TotalLaw.{or-false}
-use Rattle.repair.proofs.NthLaw.{nth-gone, nth-there}
-use Rattle.repair.specs.Runs.{entryPairs, entryVisited}
+use Rattle.repair.specs.Answers.{Stands, scrubIn, Room, counted, reportedBy}
+use Rattle.repair.specs.Runs.{visitsAt}
+use Rattle.repair.proofs.MetLaw.{counted-tally}
 
 -- ---- one word
 
@@ -32,20 +30,17 @@ stored-length clean p x = refl
 stored-length (flipped i) p x = length-sets x (8 * p .word) (le 8 (flipWord i (wordAt x (p .word))))
 stored-length beyond p x = refl
 
--- the counts move as the definition's do
-counts-word : (t : Counts) (k : Class) (w : ℕ) (y : List ℕ) → asState (counted t (outcomeAs k w)) y ≡
-    record { image = y; any = t .any; words = suc (t .words); corrected = t .corrected + isCorrected k; uncorrectable = t .uncorrectable + isLost k }
-counts-word t clean w y = rw (add-one, add-zero (t .corrected), add-zero (t .uncorrectable))
-counts-word t (flipped i) w y = rw (add-one, add-zero (t .uncorrectable))
-counts-word t beyond w y = rw (add-one, add-zero (t .corrected))
-
 -- the code's step is the definition's
-pub one-word : (t : Counts) (x y : List ℕ) (p : Pair) (o : Outcome) → o ≡ outcome (wordAt x (p .word)) (at x (p .check)) → y ≡ storedWord (classAt x p) p x
-    → asState (counted t o) y ≡ scrubWord p (asState t x)
+pub one-word : (t : Counts) (x y : List ℕ) (p : Pair) (o : Outcome) (s : State) → Stands t x s → o ≡ outcome (wordAt x (p .word)) (at x (p .check))
+    → y ≡ storedWord (classAt x p) p x → Stands (counted t o) y (scrubWord p s)
 unfolding outcome classAt scrubWord
-one-word t x y p o e f =
-    ap₂ (λ (q : Outcome) (z : List ℕ). asState (counted t q) z) e f
-    ∙ counts-word t (decode (wordAt x (p .word)) (at x (p .check))) (wordAt x (p .word)) (storedWord (decode (wordAt x (p .word)) (at x (p .check))) p x)
+one-word t x y p o s k e f =
+    record {
+      image = f ∙ ap (λ (z : List ℕ). storedWord (decode (wordAt z (p .word)) (at z (p .check))) p z) (k .image);
+      counts =
+          ap₂ counted (k .counts) (e ∙ ap (λ (z : List ℕ). outcomeAs (decode (wordAt z (p .word)) (at z (p .check))) (wordAt z (p .word))) (k .image))
+          ∙ counted-tally (s .visited) (s .met) (decode (wordAt (s .image) (p .word)) (at (s .image) (p .check))) (wordAt (s .image) (p .word));
+    }
 
 -- ---- a run of words
 
@@ -61,6 +56,12 @@ pub counted-words : (t : Counts) (o : Outcome) → counted t o .words ≡ t .wor
 counted-words t (cleanWord w) = refl
 counted-words t (correctedWord w) = refl
 counted-words t uncorrectableWord = refl
+
+-- the words ps take a state that the counts and the image stand for to t
+pub record Left (c : Counts) (x : List ℕ) (ps : List Pair) (t : State) : Type 0 where
+  pub state : State
+  pub stands : Stands c x state
+  pub ends : scrubWords ps state ≡ t
 
 pub words-next : (n word check k : ℕ) (s : State) → k < n
     → scrubWords (pairsFrom (n - k) (word + k) (check + k)) s
@@ -78,64 +79,55 @@ words-done n word check k s h = let e : n - k ≡ 0 = omega arith in rw e
 
 -- ---- where nothing more is counted as corrected, nothing is written
 
-grows : (k : Class) (a : ℕ) → a ≤ a + isCorrected k
-grows k a = omega arith
+corrections : State → ℕ
+corrections s = total isCorrected (s .met)
 
-words-grow : (ps : List Pair) (s : State) → s .corrected ≤ scrubWords ps s .corrected
-unfolding scrubWords scrubWord
+words-grow : (ps : List Pair) (s : State) → corrections s ≤ corrections (scrubWords ps s)
+unfolding scrubWords scrubWord corrections total
 words-grow [] s = omega arith
-words-grow (p ∷ ps) s = omega (arith, words-grow ps (scrubWord p s), grows (classAt (s .image) p) (s .corrected))
+words-grow (p ∷ ps) s = omega (arith, words-grow ps (scrubWord p s))
 
 kept-class : (k : Class) (p : Pair) (x : List ℕ) → isCorrected k ≡ 0 → storedWord k p x ≡ x
 kept-class clean p x e = refl
 kept-class (flipped i) p x e = absurd (omega arith)
 kept-class beyond p x e = refl
 
-pub words-same : (ps : List Pair) (s : State) → scrubWords ps s .corrected ≡ s .corrected → scrubWords ps s .image ≡ s .image
-unfolding scrubWords scrubWord
+words-same : (ps : List Pair) (s : State) → corrections (scrubWords ps s) ≡ corrections s → scrubWords ps s .image ≡ s .image
+unfolding scrubWords scrubWord corrections total
 words-same [] s e = refl
 words-same (p ∷ ps) s e =
     let g = words-grow ps (scrubWord p s) in
     let z : isCorrected (classAt (s .image) p) ≡ 0 = omega arith in
-    let h : scrubWords ps (scrubWord p s) .corrected ≡ scrubWord p s .corrected = omega arith in
+    let h : corrections (scrubWords ps (scrubWord p s)) ≡ corrections (scrubWord p s) = omega arith in
     words-same ps (scrubWord p s) h ∙ kept-class (classAt (s .image) p) p (s .image) z
 
 -- ---- region i
 
--- the run of entry i, and whether it is visited
-pub region-run : (n i : ℕ) (s : State)
-    → scrubWords (entryPairs (length (s .image)) (seen n (s .image)) (regionAt n (s .image) i))
-    (record {
-      image = s .image;
-      any = s .any || entryVisited (length (s .image)) (seen n (s .image)) (regionAt n (s .image) i);
-      words = s .words;
-      corrected = s .corrected;
-      uncorrectable = s .uncorrectable;
-    }) ≡ scrubIn n i s
-unfolding scrubIn regionAt visited scrubWords
-region-run n i s = go (nth i (seen n (s .image))) refl
-  where
-    go : (o : Option Entry) → nth i (seen n (s .image)) ≡ o
-        → scrubWords (entryPairs (length (s .image)) (seen n (s .image)) (nth i (seen n (s .image))))
-        (record { image = s .image; any = s .any || entryVisited (length (s .image)) (seen n (s .image)) (nth i (seen n (s .image))); words = s .words; corrected = s .corrected; uncorrectable = s .uncorrectable })
-        ≡ scrubFirst (length (s .image)) (seen n (s .image)) (drop i (seen n (s .image))) s
-    go none e = rw (e, nth-gone (seen n (s .image)) i e, or-false (s .any))
-    go (some f) e = rw (e, nth-there (seen n (s .image)) i f e)
+module _ (n i : ℕ) where
+  -- the mark of its visit, then its words
+  pub region-stands : (t : Counts) (x : List ℕ) (s : State) → Stands t x s → (r : Counts) (y : List ℕ)
+      → Stands r y (scrubWords (examinedIn (visitsAt n x i)) (mark (anyOf (visitsAt n x i)) s)) → Stands r y (scrubIn n i s)
+  unfolding scrubIn
+  region-stands t x s k r y h =
+      subst (Stands r y) (sym (visits-words (visitsAt n x i) s) ∙ ap (λ (z : List ℕ). scrubVisits (visitsAt n z i) s) (k .image)) h
 
--- it writes nothing where it corrects nothing
-first-same : (len : ℕ) (all es : List Entry) (s : State) → scrubFirst len all es s .corrected ≡ s .corrected → scrubFirst len all es s .image ≡ s .image
-unfolding visited
-first-same len all [] s e = refl
-first-same len all (f ∷ es) s e = words-same (cond (isProtected f) (regionPairs len all f) []) (visited len all f s) e
+  -- it writes nothing where it corrects nothing
+  region-same : (s : State) → corrections (scrubIn n i s) ≡ corrections s → scrubIn n i s .image ≡ s .image
+  unfolding scrubIn corrections
+  region-same s e =
+      let vs = visitsAt n (s .image) i in
+      let q = visits-words vs s in
+      ap (λ (t : State). t .image) q ∙ words-same (examinedIn vs) (mark (anyOf vs) s) (sym (ap corrections q) ∙ e)
 
-pub region-same : (n i : ℕ) (s : State) → scrubIn n i s .corrected ≡ s .corrected → scrubIn n i s .image ≡ s .image
-unfolding scrubIn
-region-same n i s e = first-same (length (s .image)) (seen n (s .image)) (drop i (seen n (s .image))) s e
+  pub image-same : (t t′ : Counts) (x y : List ℕ) (s : State) → Stands t x s → Stands t′ y (scrubIn n i s) → t .corrected ≡ t′ .corrected → y ≡ x
+  unfolding corrections
+  image-same t t′ x y s k k′ e =
+      k′ .image ∙ region-same s (sym (ap (λ (c : Counts). c .corrected) (k′ .counts)) ∙ sym e ∙ ap (λ (c : Counts). c .corrected) (k .counts)) ∙ sym (k .image)
 
 -- ---- the whole
 
 pub region-is : (n i : ℕ) (s : State) → parseVerdict (s .image) ≡ fine → n ≡ count (s .image) → scrubIn n i s ≡ scrubRegion i s
-unfolding scrubIn scrubRegion seen directory
+unfolding scrubIn scrubRegion regionAt seen directory
 region-is n i s h e = rw (e, le-ltb (length (s .image)) (headerLength (count (s .image))) (accepted-long (s .image) h))
 
 pub from-next : (m i : ℕ) (s : State) → parseVerdict (s .image) ≡ fine → scrubFrom (suc m) i s ≡ scrubFrom m (suc i) (scrubRegion i s)
@@ -155,9 +147,17 @@ unfolding scrub
 scrub-failed x k d h = rw h
 
 pub scrub-starts : (x : List ℕ) → parseVerdict x ≡ fine
-    → scrub x ≡ scrubFrom (count x) 0 (record { image = x; any = false; words = 0; corrected = 0; uncorrectable = 0 })
+    → scrub x ≡ scrubFrom (count x) 0 (record { image = x; met = []; visited = false })
 unfolding scrub
 scrub-starts x h = rw h
+
+pub start-stands : (x : List ℕ) → Stands (record { any = false; words = 0; corrected = 0; uncorrectable = 0 }) x (record { image = x; met = []; visited = false })
+unfolding total
+start-stands x = record { image = refl; counts = refl }
+
+pub stands-report : (t : Counts) (x : List ℕ) (s : State) → Stands t x s → reportedBy t ≡ reported s
+unfolding report
+stands-report t x s k = ap reportedBy (k .counts)
 
 -- a region of fewer than 2^32 words
 pub room-visit : (t : Counts) (n : ℕ) (v : Bool) → Room (2 ^ 32) t → n < 2 ^ 32

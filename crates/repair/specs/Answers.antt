@@ -1,32 +1,29 @@
 -- The paper's reading of what code carries along and answers. (FORMAT 8, 10)
+use mathlib.Core.Path.{_≡_}
 use mathlib.Core.Bool.{Bool, _||_}
 use mathlib.Core.Option.{Option}
 use mathlib.Core.List.{List, [], _∷_}
 use Prim.Native.Nat.{ℕ, _+_, _^_, _≤_}
-use lib.ListN.{length, drop}
-use Rattle.paper.specs.Layout.{directory}
-use Rattle.paper.specs.Views.{seen}
+use lib.ListN.{length}
 use Rattle.paper.specs.Parity.{Class, Outcome, cleanWord, correctedWord, uncorrectableWord}
 use Rattle.paper.specs.Bytes.{given}
-use Rattle.paper.specs.Scan.{Report, Pair, isCorrected, isLost, total, classAt, classesAt, examined, visitsAny}
-use Rattle.paper.specs.Scrub.{State, scrubFirst}
+use Rattle.paper.specs.Scan.{Report, visits, Pair, isCorrected, isLost, total, classAt, classesAt, examined}
+use Rattle.paper.specs.Scrub.{State, scrubVisits}
 use Rattle.paper.specs.Mend as paper
+use Rattle.paper.proofs.ScanLaw.{anyOf}
 use Rattle.error.specs.Refused.{numberOf, detailOf}
 use Rattle.scan.specs.Answers.{asScan}
 use Rattle.repair.specs.declared.counts.Counts.{Counts}
 use Rattle.repair.specs.declared.mending.Mending.{Mending}
 use Rattle.repair.specs.declared.mending.MendResult.{MendResult}
 use Rattle.repair.specs.declared.mending.MendResult.the-variants.{Mended, Refused}
+use Rattle.repair.specs.Runs.{visitsAt}
 
--- the counts, with the image as it stands
-abbrev pub asState : Counts → List ℕ → State
-asState c x = record { image = x; any = c .any; words = c .words; corrected = c .corrected; uncorrectable = c .uncorrectable }
+-- ---- counts
 
--- region i of the image as it stands, with a count n of regions that stands beside it
-unfoldable pub scrubIn : ℕ → ℕ → State → State
-scrubIn n i s =
-    let all = seen n (s .image) in
-    scrubFirst (length (s .image)) all (drop i all) s
+-- of a mark and the classes that were met
+abbrev pub tally : Bool → List Class → Counts
+tally v ks = record { any = v; words = length ks; corrected = total isCorrected ks; uncorrectable = total isLost ks }
 
 -- room for m words more
 pub record Room (m : ℕ) (c : Counts) : Type 0 where
@@ -50,6 +47,17 @@ visitedBy c v = record { any = c .any || v; words = c .words; corrected = c .cor
 abbrev pub plus : Counts → List Class → Counts
 plus c ks = record { any = c .any; words = c .words + length ks; corrected = c .corrected + total isCorrected ks; uncorrectable = c .uncorrectable + total isLost ks }
 
+-- ---- scrub
+
+-- the counts c and the image x as it stands are those of the state s
+pub record Stands (c : Counts) (x : List ℕ) (s : State) : Type 0 where
+  pub image : x ≡ s .image
+  pub counts : c ≡ tally (s .visited) (s .met)
+
+-- region i of the image as it stands, with a count n of regions that stands beside it
+unfoldable pub scrubIn : ℕ → ℕ → State → State
+scrubIn n i s = scrubVisits (visitsAt n (s .image) i) s
+
 -- ---- mend: what it counts
 
 -- the classes in which it meets the words, each after those before it were fixed
@@ -57,12 +65,9 @@ unfoldable pub met : List ℕ → List Pair → List Class
 met x [] = []
 met x (p ∷ ps) = classAt x p ∷ met (paper.fixAt p x) ps
 
-abbrev pub tally : Bool → List Class → Counts
-tally v ks = record { any = v; words = length ks; corrected = total isCorrected ks; uncorrectable = total isLost ks }
-
 -- what a scan of x counts
 unfoldable pub scanned : List ℕ → Counts
-scanned x = tally (visitsAny (length x) (directory x) (directory x)) (classesAt x (examined x))
+scanned x = tally (anyOf (visits x)) (classesAt x (examined x))
 
 -- ---- mend: its answer, with the image y that it leaves
 

@@ -8,12 +8,13 @@ ghost use Rattle.paper.specs.Bytes.{at};
 ghost use Rattle.paper.specs.Refusals.{fine};
 ghost use Rattle.paper.specs.Layout.{count, headerLength, scrubWanted};
 ghost use Rattle.paper.specs.Parse.{parseVerdict};
-ghost use Rattle.paper.specs.Scan.{pairsFrom};
+ghost use Rattle.paper.specs.Scan.{pairsFrom, examinedIn};
 ghost use Rattle.paper.specs.Mend as paper;
+ghost use Rattle.paper.proofs.ScanLaw.{anyOf};
 ghost use Rattle.laws.specs.Steps.{copyVote, copyVotes, mendHeader, mendWords};
 ghost use Rattle.scan.specs.Answers.{asScan};
 ghost use Rattle.ecc.specs.Places.{placeChecks};
-ghost use Rattle.repair.specs.Runs.{pairsAt, visitsAt};
+ghost use Rattle.repair.specs.Runs.{visitsAt};
 ghost use Rattle.repair.specs.Answers.{asMended, asMending, leftBy, Room, visitedBy, plus, met, scanned};
 use super::apart::Check;
 use super::apart::check_apart;
@@ -142,8 +143,8 @@ fn mend_region(
     counts: Counts,
 ) -> Counts
     requires { ⌜ Room (2 ^ 32) counts × (now table ≡ placeChecks) ⌝ }
-    ensures leaves { λ r. ⌜ now (bytes .exit) ≡ paper.fixAll (pairsAt (header .«region_count») (now (bytes .entry)) i) (now (bytes .entry)) ⌝ }
-    ensures tells { λ r. ⌜ r ≡ plus (visitedBy counts (visitsAt (header .«region_count») (now (bytes .entry)) i)) (met (now (bytes .entry)) (pairsAt (header .«region_count») (now (bytes .entry)) i)) ⌝ }
+    ensures leaves { λ r. ⌜ now (bytes .exit) ≡ paper.fixAll (examinedIn (visitsAt (header .«region_count») (now (bytes .entry)) i)) (now (bytes .entry)) ⌝ }
+    ensures tells { λ r. ⌜ r ≡ plus (visitedBy counts (anyOf (visitsAt (header .«region_count») (now (bytes .entry)) i))) (met (now (bytes .entry)) (examinedIn (visitsAt (header .«region_count») (now (bytes .entry)) i))) ⌝ }
     ensures grows { λ r. ⌜ (r .words ≤ counts .words + 2 ^ 32) × Room 0 r ⌝ }
 {
     let run = run_of(bytes, header, i);

@@ -2,8 +2,11 @@
 ghost use mathlib.Core.Path.{_≡_};
 ghost use mathlib.Core.Bool.{false};
 ghost use Prim.Native.Nat.{ℕ, min};
+ghost use lib.ListN.{length};
+ghost use Rattle.paper.specs.Views.{seen};
+ghost use Rattle.paper.specs.Scan.{planeOf, visitWith};
 ghost use Rattle.layout.specs.Regions.{asEntry};
-ghost use Rattle.repair.specs.Runs.{IsRun, IsRunOf};
+ghost use Rattle.repair.specs.Runs.{visitsAt, IsRun};
 use layout::Region;
 use tables::PartSpan;
 use tables::Place;
@@ -40,7 +43,7 @@ fn least(a: usize, b: usize) -> usize
 
 // Of a region that is no plane and is flagged 2.
 fn protected_run(bytes: &[u8], header: Header, region: Region) -> Run
-    ensures { λ r. ⌜ IsRunOf (header .«region_count») (now (bytes .entry)) (asEntry region) r ⌝ }
+    ensures { λ r. ⌜ IsRun (now (bytes .entry)) (visitWith (asEntry region) (planeOf (length (now (bytes .entry))) (seen (header .«region_count») (now (bytes .entry))) (asEntry region))) r ⌝ }
 {
     let plane = ecc_for(bytes, header, region);
     let span = region_span(bytes.len(), region);
@@ -61,7 +64,7 @@ fn protected_run(bytes: &[u8], header: Header, region: Region) -> Run
 
 // Of entry i, if there is one.
 pub(crate) fn run_of(bytes: &[u8], header: Header, i: u16) -> Run
-    ensures { λ r. ⌜ IsRun (header .«region_count») (now (bytes .entry)) i r ⌝ }
+    ensures { λ r. ⌜ IsRun (now (bytes .entry)) (visitsAt (header .«region_count») (now (bytes .entry)) i) r ⌝ }
 {
     let found = region_at(bytes, header, i);
     let RegionAt::Found(region) = found else {

@@ -6,7 +6,7 @@ ghost use Rattle.paper.specs.Scan.{pairsFrom};
 ghost use Rattle.scan.specs.Answers.{asScan};
 ghost use Rattle.paper.specs.Scrub as paper;
 ghost use Rattle.ecc.specs.Places.{placeChecks};
-ghost use Rattle.repair.specs.Answers.{asState, scrubIn, Room};
+ghost use Rattle.repair.specs.Answers.{Stands, scrubIn, Room};
 use super::counts::Counts;
 use super::counts::count_word;
 use super::counts::report;
@@ -29,7 +29,7 @@ fn scrub_words(
     counts: Counts,
 ) -> Counts
     requires { ⌜ (8 * (word + n) ≤ length (now bytes)) × (check + n ≤ length (now bytes)) × Room n counts × (now table ≡ placeChecks) ⌝ }
-    ensures is { λ r. ⌜ asState r (now (bytes .exit)) ≡ paper.scrubWords (pairsFrom n word check) (asState counts (now (bytes .entry))) ⌝ }
+    ensures is { λ r. ⌜ ((s : paper.State) → Stands counts (now (bytes .entry)) s → Stands r (now (bytes .exit)) (paper.scrubWords (pairsFrom n word check) s)) ⌝ }
     ensures grows { λ r. ⌜ (r .words ≤ counts .words + n) × Room 0 r ⌝ }
 {
     let mut total = counts;
@@ -52,7 +52,7 @@ fn scrub_region(
 ) -> Counts
     requires { ⌜ Room (2 ^ 32) counts × (now table ≡ placeChecks) ⌝ }
     ensures grows { λ r. ⌜ (r .words ≤ counts .words + 2 ^ 32) × Room 0 r ⌝ }
-    ensures is { λ r. ⌜ asState r (now (bytes .exit)) ≡ scrubIn (header .«region_count») i (asState counts (now (bytes .entry))) ⌝ }
+    ensures is { λ r. ⌜ ((s : paper.State) → Stands counts (now (bytes .entry)) s → Stands r (now (bytes .exit)) (scrubIn (header .«region_count») i s)) ⌝ }
 {
     let run = run_of(bytes, header, i);
     let total = visit(counts, run.visited);

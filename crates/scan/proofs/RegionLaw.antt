@@ -1,21 +1,22 @@
 -- One region's scan, as its plane's place and its own bounds tell. Assumes nothing.
 use mathlib.Core.Path.{_≡_, refl, sym, ap, ap₂, _∙_, subst}
-use mathlib.Core.Bool.{Bool, true, false}
+use mathlib.Core.Bool.{Bool, true, false, _&&_, cond}
 use mathlib.Core.List.{List, [], _∷_}
 use mathlib.Core.Option.{Option, none, some}
-use Prim.Native.Nat.{ℕ, zero, suc, _+_, _*_, _≤_, _<_, min}
+use Prim.Native.Nat.{ℕ, zero, suc, _*_, _≤_, min}
 use native.Mathlib.Nat.{min-le-left}
 use native.Mathlib.Omega.{arith}
 use borrow.Author.Tests.{leb-true}
-use lib.Dec.{ltb, leb}
+use lib.Dec.{leb}
 use lib.ListN.{length}
 use Rattle.paper.specs.Bytes.{part, given}
 use Rattle.paper.specs.Layout.{Entry, start, end}
 use Rattle.paper.specs.Parity.{Class, clean, flipped, beyond}
 use Rattle.paper.specs.Views.{Range, range, Span, span, noSpan, bytesSpan, firstThat, planeFor, seen, eccFor, placeWithin}
-use Rattle.paper.specs.Scan.{Report, total, isCorrected, isLost, report, sliceScan, planeOf, planeWithin, pairsFrom, pairsWith, classesAt, reportOf, scanWith, scanRegion}
+use Rattle.paper.specs.Scan.{Report, total, isCorrected, isLost, report, sliceScan, planeOf, planeWithin, isProtected, Visit, visitWith, visitOf, pairsFrom, wordsOf, examinedIn, classesAt, scanOf, scanRegion}
 use Rattle.paper.proofs.PlaneLaw.{inside, outside, no-place, place-of, region-outside}
-use Rattle.paper.proofs.ScanLaw.{slice-scan, length-classes}
+use Rattle.paper.proofs.ScanLaw.{slice-scan, length-classes, scan-one, anyOf}
+use Rattle.layout.specs.Regions.{asEntry, regionOf}
 use Rattle.scan.specs.Answers.{scanAgainst}
 
 pub place-fits : (len : ℕ) (o : Option Entry) (a b : ℕ) → some (range a b) ≡ placeWithin len o → (a ≤ b) × (b ≤ len)
@@ -33,22 +34,40 @@ place-fits len (some p) a b e = go (leb (end p) len) refl e
 
 module _ (n : ℕ) (x : List ℕ) (e : Entry) where
   pub without-plane : none ≡ eccFor n x (e .kind) → none ≡ scanRegion n x e
-  unfolding scanRegion planeOf eccFor
+  unfolding scanRegion scanOf planeOf eccFor
   without-plane f = sym (rw (no-place (length x) e (firstThat (planeFor (e .kind)) (seen n x)) f))
 
   pub against-plane : (a b : ℕ) → some (range a b) ≡ eccFor n x (e .kind) → scanAgainst x (bytesSpan (length x) e) a b ≡ scanRegion n x e
-  unfolding scanRegion planeOf eccFor
+  unfolding scanRegion scanOf planeOf eccFor
   against-plane a b f = go (bytesSpan (length x) e) refl
     where
-      go : (s : Span) → s ≡ bytesSpan (length x) e → scanAgainst x s a b ≡ scanWith x e (planeWithin (length x) e (firstThat (planeFor (e .kind)) (seen n x)))
+      go : (s : Span) → s ≡ bytesSpan (length x) e → scanAgainst x s a b ≡ scanOf x (visitWith e (planeWithin (length x) e (firstThat (planeFor (e .kind)) (seen n x))))
       go (noSpan k d) g = sym (rw (region-outside (length x) e (firstThat (planeFor (e .kind)) (seen n x)) (outside (length x) e k d g)))
       go (span r) g =
           let i = inside (length x) e (r .first) (r .past) g in
           let p = place-of (length x) e (firstThat (planeFor (e .kind)) (seen n x)) a b (i .0) f in
           ap₂ (λ (s t : ℕ). some (sliceScan (part x s t) (part x a b))) (i .1) (i .2)
           ∙ ap₂ (λ (s t : ℕ). some (sliceScan (part x (start e) (end e)) (part x s t))) (p .first) (p .past)
-          ∙ ap some (slice-scan x e (p .plane) (i .0) (p .fits))
-          ∙ ap (scanWith x e) (sym (p .is))
+          ∙ ap some (slice-scan x e (p .plane) (i .0) (p .fits)) ∙ sym (scan-one x (record { region = e; plane = p .plane }))
+          ∙ ap (λ (o : Option Entry). scanOf x (visitWith e o)) (sym (p .is))
+
+-- the reserved field is not read
+pub same-visit : (len : ℕ) (all : List Entry) (e : Entry)
+    → (examinedIn (visitOf len all (asEntry (regionOf e))) ≡ examinedIn (visitOf len all e)) × (anyOf (visitOf len all (asEntry (regionOf e))) ≡ anyOf (visitOf len all e))
+unfolding visitOf isProtected planeOf examinedIn wordsOf
+same-visit len all e = go (isProtected e) (firstThat (planeFor (e .kind)) all)
+  where
+    Same : List Visit → List Visit → Type 0
+    Same vs ws = (examinedIn vs ≡ examinedIn ws) × (anyOf vs ≡ anyOf ws)
+
+    within : (t : Bool) (p : Entry) → Same (visitWith (asEntry (regionOf e)) (given t p)) (visitWith e (given t p))
+    within true p = (refl, refl)
+    within false p = (refl, refl)
+
+    go : (t : Bool) (o : Option Entry) → Same (cond t (visitWith (asEntry (regionOf e)) (planeWithin len (asEntry (regionOf e)) o)) []) (cond t (visitWith e (planeWithin len e o)) [])
+    go false o = (refl, refl)
+    go true none = (refl, refl)
+    go true (some p) = within (leb (end e) len && leb (end p) len) p
 
 -- ---- a report is no larger than its region
 
@@ -77,19 +96,22 @@ pub record Bounded (w : ℕ) (r : Report) : Type 0 where
   pub corrected : r .corrected ≤ r .words
   pub uncorrectable : r .uncorrectable ≤ r .words
 
-report-bounded : (x : List ℕ) (e : Entry) (o : Option Entry) (r : Report) → some r ≡ scanWith x e o → Bounded (e .words) r
-unfolding reportOf report
+report-bounded : (x : List ℕ) (e : Entry) (o : Option Entry) (r : Report) → some r ≡ scanOf x (visitWith e o) → Bounded (e .words) r
+unfolding scanOf report wordsOf
 report-bounded x e none r f = let z : _≡_ {A = ℕ} 0 1 = cc in absurd (omega arith)
-report-bounded x e (some p) r f = subst (Bounded (e .words)) (same f) here
+report-bounded x e (some p) r f = subst (Bounded (e .words)) (same (f ∙ scan-one x v)) here
   where
-    same : some r ≡ some (reportOf x (pairsWith e (some p))) → reportOf x (pairsWith e (some p)) ≡ r
+    v : Visit
+    v = record { region = e; plane = p }
+
+    same : some r ≡ some (report (classesAt x (wordsOf v))) → report (classesAt x (wordsOf v)) ≡ r
     same g = cc
 
-    here : Bounded (e .words) (reportOf x (pairsWith e (some p)))
+    here : Bounded (e .words) (report (classesAt x (wordsOf v)))
     here =
-        let cs = classesAt x (pairsWith e (some p)) in
+        let cs = classesAt x (wordsOf v) in
         record {
-          words = omega (arith, length-classes x (pairsWith e (some p)), length-from (min (e .words) (8 * p .words)) (e .offset) (8 * p .offset), min-le-left (e .words) (8 * p .words));
+          words = omega (arith, length-classes x (wordsOf v), length-from (min (e .words) (8 * p .words)) (e .offset) (8 * p .offset), min-le-left (e .words) (8 * p .words));
           corrected = few isCorrected at-most-one cs;
           uncorrectable = few isLost at-most-lost cs;
         }

@@ -5,12 +5,13 @@ ghost use lib.ListN.{length};
 ghost use Rattle.paper.specs.Layout.{start, end};
 ghost use Rattle.paper.specs.Views.{seen, regionAt, partOf, bytesSpan};
 ghost use Rattle.paper.specs.Bytes.{part};
-ghost use Rattle.paper.specs.Scan.{sliceScan, scanRegion, scanIn};
+ghost use Rattle.paper.specs.Scan.{sliceScan, visitOf, scanRegion, scanIn};
+ghost use Rattle.paper.specs.Scrub.{visitAt};
 ghost use Rattle.ecc.specs.Answers.{asReport};
 ghost use Rattle.ecc.specs.Places.{placeChecks};
 ghost use Rattle.layout.specs.Regions.{asEntry};
 ghost use Rattle.scan.specs.Answers.{Few, asScan, scanAgainst};
-ghost use Rattle.scan.specs.Totals.{asTotals, add, addAt, Small};
+ghost use Rattle.scan.specs.Totals.{asTotals, add, Small};
 use ecc::EccReport;
 use ecc::place_checks;
 use ecc::plane_scan_by;
@@ -82,7 +83,7 @@ fn add_region(
     total: Total,
 ) -> Total
     requires { ⌜ Small 65535 total × (now table ≡ placeChecks) ⌝ }
-    ensures is { λ r. ⌜ asTotals r ≡ add (now (bytes .entry)) (seen (header .«region_count») (now (bytes .entry))) (asEntry region) (asTotals total) ⌝ }
+    ensures is { λ r. ⌜ asTotals r ≡ add (now (bytes .entry)) (visitOf (length (now (bytes .entry))) (seen (header .«region_count») (now (bytes .entry))) (asEntry region)) (asTotals total) ⌝ }
     ensures small { λ r. ⌜ ((i : ℕ) → Small i total → Small (i + 1) r) ⌝ }
 {
     if region.is_ecc_plane() {
@@ -105,7 +106,7 @@ fn add_region(
 // Entry i, if there is one.
 fn add_entry(table: &[u8; 2048], bytes: &[u8], header: Header, i: u16, total: Total) -> Total
     requires { ⌜ Small i total × (now table ≡ placeChecks) ⌝ }
-    ensures is { λ r. ⌜ asTotals r ≡ addAt (now (bytes .entry)) (seen (header .«region_count») (now (bytes .entry))) (regionAt (header .«region_count») (now (bytes .entry)) i) (asTotals total) ⌝ }
+    ensures is { λ r. ⌜ asTotals r ≡ add (now (bytes .entry)) (visitAt (length (now (bytes .entry))) (seen (header .«region_count») (now (bytes .entry))) (regionAt (header .«region_count») (now (bytes .entry)) i)) (asTotals total) ⌝ }
     ensures small { λ r. ⌜ Small (i + 1) r ⌝ }
 {
     match region_at(bytes, header, i) {

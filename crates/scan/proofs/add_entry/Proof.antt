@@ -5,13 +5,16 @@ use Prim.Native.Nat.{_-_}
 use native.Mathlib.Omega.{arith}
 use borrow.Author.Needs.{needs}
 use denote.Ref.{now}
+use lib.ListN.{length}
 use Rattle.paper.specs.Layout.{Entry}
 use Rattle.paper.specs.Views.{seen, regionAt}
+use Rattle.paper.specs.Scan.{visitOf}
+use Rattle.paper.specs.Scrub.{visitAt}
 use Rattle.layout.specs.declared.Region.{Region}
 use Rattle.layout.specs.Regions.{asEntry}
 use Rattle.view.proofs.AnswersLaw.{found-some, found-none}
-use Rattle.scan.specs.Totals.{asTotals, add, addAt}
-use Rattle.scan.proofs.TotalLaw.{add-same, small-same}
+use Rattle.scan.specs.Totals.{asTotals, add}
+use Rattle.scan.proofs.TotalLaw.{add-none, add-same, small-same}
 use Rattle.scan.proofs.add_entry.Statement.{statement}
 use Rattle.scan.proofs.add_entry.Tie as tie
 
@@ -31,9 +34,9 @@ returns c =
     let x = now (g .bytes) in
     let f = found-some (regionAt n x (g .i)) (k .region .given .0 .0) (sym (k .region .given .1) ∙ r .region-at .ensures) in (
       c .add-region .ensures .0
-          ∙ ap (λ (q : Region). add x (seen n x) (asEntry q) (asTotals (g .total))) (f .2)
+          ∙ ap (λ (q : Region). add x (visitOf (length x) (seen n x) (asEntry q)) (asTotals (g .total))) (f .2)
           ∙ add-same x (seen n x) (f .0) (asTotals (g .total))
-          ∙ ap (λ (o : Option Entry). addAt x (seen n x) o (asTotals (g .total))) (sym (f .1)),
+          ∙ ap (λ (o : Option Entry). add x (visitAt (length x) (seen n x) o) (asTotals (g .total))) (sym (f .1)),
       c .add-region .ensures .1 (g .i) (s .pre .0),
     )
 
@@ -44,7 +47,7 @@ returns-2 c =
     let g = s .args in
     let n = g .header .«region_count» in
     let x = now (g .bytes) in (
-      ap (λ (o : Option Entry). addAt x (seen n x) o (asTotals (g .total))) (sym (found-none (regionAt n x (g .i)) (sym (c .enum-told .given .1) ∙ r .region-at .ensures))),
+      sym (add-none x (asTotals (g .total))) ∙ ap (λ (o : Option Entry). add x (visitAt (length x) (seen n x) o) (asTotals (g .total))) (sym (found-none (regionAt n x (g .i)) (sym (c .enum-told .given .1) ∙ r .region-at .ensures))),
       small-same (g .i) (g .total) (s .pre .0),
     )
 

@@ -5,15 +5,16 @@ use native.Mathlib.Omega.{arith}
 use borrow.Author.Needs.{needs}
 use borrow.Author.Tests.{not-true, not-false}
 use denote.Ref.{now}
-use lib.ListN.{drop}
+use lib.ListN.{length, drop}
 use Rattle.paper.specs.Views.{seen, regionAt}
-use Rattle.scan.specs.Totals.{asTotals, addAll, Small}
-use Rattle.scan.proofs.TotalLaw.{addAll-next, addAll-done, noTotals, all-said}
+use Rattle.paper.specs.Scan.{visitsOver}
+use Rattle.scan.specs.Totals.{asTotals, add, Small}
+use Rattle.scan.proofs.TotalLaw.{add-next, add-done, noTotals, all-said}
 use Rattle.scan.proofs.verify_all.Statement.{statement}
 use Rattle.scan.proofs.verify_all.Tie as tie
 
 abbrev Inv-loop : tie.InvT-loop
-Inv-loop bytes header n table total₀ i₀ total i = (i ≤ n) × Small i total × (addAll bytes (seen n bytes) (drop i (seen n bytes)) (asTotals total) ≡ addAll bytes (seen n bytes) (seen n bytes) noTotals)
+Inv-loop bytes header n table total₀ i₀ total i = (i ≤ n) × Small i total × (add bytes (visitsOver (length bytes) (seen n bytes) (drop i (seen n bytes))) (asTotals total) ≡ add bytes (visitsOver (length bytes) (seen n bytes) (seen n bytes)) noTotals)
 
 abbrev μ-loop : tie.MeasureT-loop
 μ-loop bytes header n table total₀ i₀ total i = n - i
@@ -33,8 +34,8 @@ loop-again c =
     let x = now (g .bytes) in (
       omega arith,
       c .add-entry .ensures .1,
-      ap (addAll x (seen n x) (drop (a .loop .i + 1) (seen n x))) (c .add-entry .ensures .0)
-          ∙ sym (addAll-next x (seen n x) (seen n x) (a .loop .i) (asTotals (a .loop .total))) ∙ a .loop .inv .2,
+      ap (add x (visitsOver (length x) (seen n x) (drop (a .loop .i + 1) (seen n x)))) (c .add-entry .ensures .0)
+          ∙ sym (add-next x (seen n x) (seen n x) (a .loop .i) (asTotals (a .loop .total))) ∙ a .loop .inv .2,
     )
 
 returns : tie.Need-returns Inv-loop μ-loop
@@ -43,8 +44,8 @@ returns c =
     let g = a .before .before .before .before .args in
     let n = g .header .«region_count» in
     let x = now (g .bytes) in
-    let e : asTotals (a .loop .total) ≡ addAll x (seen n x) (seen n x) noTotals =
-    sym (addAll-done x n (a .loop .i) (asTotals (a .loop .total)) (omega arith)) ∙ a .loop .inv .2 in
+    let e : asTotals (a .loop .total) ≡ add x (visitsOver (length x) (seen n x) (seen n x)) noTotals =
+    sym (add-done x n (a .loop .i) (asTotals (a .loop .total)) (omega arith)) ∙ a .loop .inv .2 in
     sym (rw (not-true (a .loop .total .any) (c .if1 .taken))) ∙ all-said n x (asTotals (a .loop .total)) e
 
 returns-2 : tie.Need-returns-2 Inv-loop μ-loop
@@ -53,8 +54,8 @@ returns-2 c =
     let g = a .before .before .before .before .args in
     let n = g .header .«region_count» in
     let x = now (g .bytes) in
-    let e : asTotals (a .loop .total) ≡ addAll x (seen n x) (seen n x) noTotals =
-    sym (addAll-done x n (a .loop .i) (asTotals (a .loop .total)) (omega arith)) ∙ a .loop .inv .2 in
+    let e : asTotals (a .loop .total) ≡ add x (visitsOver (length x) (seen n x) (seen n x)) noTotals =
+    sym (add-done x n (a .loop .i) (asTotals (a .loop .total)) (omega arith)) ∙ a .loop .inv .2 in
     sym (rw (not-false (a .loop .total .any) (c .if1 .left))) ∙ all-said n x (asTotals (a .loop .total)) e
 
 pub verify-all-spec : {M : Type 1} → statement M

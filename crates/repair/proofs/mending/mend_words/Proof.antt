@@ -5,8 +5,10 @@ use native.Mathlib.Omega.{arith}
 use denote.Ref.{now}
 use lib.ListN.{length}
 use Rattle.paper.specs.Bytes.{Bytes}
+use Rattle.paper.specs.Scan.{examinedIn}
 use Rattle.paper.specs.Mend.{fixAll}
-use Rattle.repair.specs.Runs.{pairsAt, visitsAt}
+use Rattle.paper.proofs.ScanLaw.{anyOf}
+use Rattle.repair.specs.Runs.{visitsAt}
 use Rattle.repair.specs.Answers.{Room, visitedBy, plus, met}
 use Rattle.repair.proofs.MendingLaw.{fixedTo, tallied, none-fixed, none-tallied, fixed-next, tally-next, all-fixed, tally-all}
 use Rattle.repair.proofs.mending.mend_words.Statement.{statement}
@@ -42,9 +44,9 @@ loop-again c =
       omega (arith, c .before .bytes .given),
       omega (arith, o .ensures .1 .1 .0),
       o .ensures .1 .1 .1,
-      o .ensures .0 ∙ ap (λ (m : ℕ). fixAll (pairsAt m y (l .i)) y) (s .pre .0)
+      o .ensures .0 ∙ ap (λ (m : ℕ). fixAll (examinedIn (visitsAt m y (l .i))) y) (s .pre .0)
           ∙ fixed-next x (s .pre .1) bs (l .i) y (l .inv .4) ∙ ap (fixedTo x) e,
-      o .ensures .1 .0 ∙ ap (λ (m : ℕ). plus (visitedBy (l .counts) (visitsAt m y (l .i))) (met y (pairsAt m y (l .i)))) (s .pre .0)
+      o .ensures .1 .0 ∙ ap (λ (m : ℕ). plus (visitedBy (l .counts) (anyOf (visitsAt m y (l .i)))) (met y (examinedIn (visitsAt m y (l .i))))) (s .pre .0)
           ∙ tally-next x (s .pre .1) bs (l .i) y (l .counts) (l .inv .4) (l .inv .5) ∙ ap (tallied x) e,
     )
 

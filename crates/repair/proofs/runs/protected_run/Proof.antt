@@ -1,10 +1,12 @@
 -- `repair::runs::protected_run` meets its contract. Assumes nothing.
+use mathlib.Core.Path.{ap}
 use Prim.Native.Nat.{_-_}
 use native.Mathlib.Omega.{arith}
 use borrow.Author.Needs.{needs}
 use denote.Ref.{now}
+use Rattle.paper.specs.Scan.{visitWith}
 use Rattle.layout.specs.Regions.{asEntry}
-use Rattle.repair.proofs.RunLaw.{without-run, no-plane, past-end, ordered, the-run}
+use Rattle.repair.proofs.RunLaw.{empty-run, no-plane, past-end, ordered, the-run}
 use borrow.Author.Needs.{needs}
 use Rattle.repair.proofs.runs.protected_run.Statement.{statement}
 use Rattle.repair.proofs.runs.protected_run.Tie as tie
@@ -14,16 +16,16 @@ returns c =
     let e = c .before .before .before .before in
     let r = c .before .before .before in
     let g = e .before .before .args in
-    without-run (g .header .«region_count») (now (g .bytes)) (asEntry (g .region)) (c .no-run .result) (c .no-run .ensures)
-    (no-plane (g .header .«region_count») (now (g .bytes)) (g .region) (e .ecc-for .result) (r .region-span .result) (e .ecc-for .ensures) (r .region-span .ensures) (c .before .enum-told .given .1))
+    empty-run (now (g .bytes)) _ (c .no-run .result) (c .no-run .ensures)
+    (ap (visitWith (asEntry (g .region))) (no-plane (g .header .«region_count») (now (g .bytes)) (g .region) (e .ecc-for .result) (r .region-span .result) (e .ecc-for .ensures) (r .region-span .ensures) (c .before .enum-told .given .1)))
 
 returns-2 : tie.Need-returns-2
 returns-2 c =
     let r = c .before .before .before .before .before .before in
     let e = r .before in
     let g = e .before .before .args in
-    without-run (g .header .«region_count») (now (g .bytes)) (asEntry (g .region)) (c .no-run2 .result) (c .no-run2 .ensures)
-    (past-end (g .header .«region_count») (now (g .bytes)) (g .region) (e .ecc-for .result) (r .region-span .result) (e .ecc-for .ensures) (r .region-span .ensures) _ (c .before .enum-told3 .given .1))
+    empty-run (now (g .bytes)) _ (c .no-run2 .result) (c .no-run2 .ensures)
+    (ap (visitWith (asEntry (g .region))) (past-end (g .header .«region_count») (now (g .bytes)) (g .region) (e .ecc-for .result) (r .region-span .result) (e .ecc-for .ensures) (r .region-span .ensures) _ (c .before .enum-told3 .given .1)))
 
 sub-least : tie.Need-sub-least
 sub-least c =

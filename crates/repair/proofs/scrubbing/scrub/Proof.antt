@@ -3,7 +3,7 @@
 use mathlib.Core.Path.{_≡_, refl, sym, ap, ap₂, _∙_, subst}
 use mathlib.Core.Logic.{⊎-elim}
 use mathlib.Core.Bool.{false, not}
-use mathlib.Core.List.{List}
+use mathlib.Core.List.{List, []}
 use mathlib.Core.Option.{none}
 use Prim.Native.Nat.{ℕ, suc, _+_, _-_, _*_, _^_, _≤_, _<_}
 use native.Mathlib.Omega.{arith}
@@ -17,9 +17,9 @@ use Rattle.paper.specs.Scrub.{State, Scrubbed, scrubFrom, reported}
 use Rattle.paper.specs.Scrub as paper
 use Rattle.view.specs.declared.header.Header.{Header}
 use Rattle.view.proofs.AnswersLaw.{parsed-fine, parsed-count, parsed-refused}
-use Rattle.repair.specs.Answers.{asState, scrubIn, Room}
+use Rattle.repair.specs.Answers.{Stands, scrubIn, Room}
 use Rattle.repair.specs.declared.counts.Counts.{Counts}
-use Rattle.repair.proofs.ScrubbingLaw.{region-is, region-same, from-next, from-failed, from-done, scrub-failed, scrub-starts}
+use Rattle.repair.proofs.ScrubbingLaw.{image-same, region-is, from-next, from-failed, from-done, scrub-failed, scrub-starts, start-stands, stands-report}
 use Rattle.repair.proofs.scrubbing.scrub.Statement.{statement}
 use Rattle.repair.proofs.scrubbing.scrub.Tie as tie
 
@@ -28,27 +28,39 @@ record Checked (x : List ℕ) (h : Header) : Type 0 where
   fine-now : parseVerdict x ≡ fine
   count-now : h .«region_count» ≡ count x
 
+-- the n - i regions that are left take a state that the counts and the image stand for to what is asked of x₀
+record Goes (x₀ : List ℕ) (n i : ℕ) (t : Counts) (x : List ℕ) : Type 0 where
+  state : State
+  stands : Stands t x state
+  ends : scrubFrom (n - i) i state ≡ paper.scrub x₀
+
 -- a turn: region i is scrubbed in an image that is known to parse
-module _ (i : ℕ) (t t′ : Counts) (x y : List ℕ) (h : Header) (k : Checked x h) (e : asState t′ y ≡ scrubIn (h .«region_count») i (asState t x)) where
-  turn : (x₀ : List ℕ) (n : ℕ) → i < n → scrubFrom (n - i) i (asState t x) ≡ paper.scrub x₀ → scrubFrom (n - (i + 1)) (i + 1) (asState t′ y) ≡ paper.scrub x₀
-  turn x₀ n l f =
+module _ (x₀ : List ℕ) (n i : ℕ) (t t′ : Counts) (x y : List ℕ) (h : Header) (k : Checked x h) (l : i < n) (g : Goes x₀ n i t x)
+    (e : (s : State) → Stands t x s → Stands t′ y (scrubIn (h .«region_count») i s)) where
+  turn : Goes x₀ n (i + 1) t′ y
+  turn =
+      let s = g .state in
       let m : n - i ≡ suc (n - (i + 1)) = omega arith in
       let j : i + 1 ≡ suc i = omega arith in
-      ap₂ (scrubFrom (n - (i + 1))) j (e ∙ region-is (h .«region_count») i (asState t x) (k .fine-now) (k .count-now))
-      ∙ sym (ap (λ (z : ℕ). scrubFrom z i (asState t x)) m ∙ from-next (n - (i + 1)) i (asState t x) (k .fine-now)) ∙ f
+      let f : parseVerdict (s .image) ≡ fine = ap parseVerdict (sym (g .stands .image)) ∙ k .fine-now in
+      record {
+        state = scrubIn (h .«region_count») i s;
+        stands = e s (g .stands);
+        ends =
+            ap₂ (scrubFrom (n - (i + 1))) j (region-is (h .«region_count») i s f (k .count-now ∙ ap count (g .stands .image)))
+            ∙ sym (ap (λ (z : ℕ). scrubFrom z i s) m ∙ from-next (n - (i + 1)) i s f) ∙ g .ends;
+      }
 
   -- where nothing was corrected, the image is the same
   still : t .corrected ≡ t′ .corrected → Checked y h
   still f =
-      let g = ap (λ (s : State). s .corrected) e in
-      let z : y ≡ x = ap (λ (s : State). s .image) e ∙ region-same (h .«region_count») i (asState t x) (sym g ∙ sym f) in
-      subst (λ (w : List ℕ). Checked w h) (sym z) k
+      subst (λ (w : List ℕ). Checked w h) (sym (image-same (h .«region_count») i t t′ x y (g .state) (g .stands) (e (g .state) (g .stands)) f)) k
 
 abbrev record-of : State → Scrubbed
 record-of s = record { image = s .image; report = reported s }
 
 abbrev Inv-loop : tie.InvT-loop
-Inv-loop bytes₀ first table header₀ written₀ counts₀ i₀ bytes header written counts i = (i ≤ first .«region_count») × (length bytes ≡ length bytes₀) × (counts .words ≤ i * 2 ^ 32) × Room 0 counts × (scrubFrom (first .«region_count» - i) i (asState counts bytes) ≡ paper.scrub bytes₀) × (written ≡ counts .corrected → Checked bytes header)
+Inv-loop bytes₀ first table header₀ written₀ counts₀ i₀ bytes header written counts i = (i ≤ first .«region_count») × (length bytes ≡ length bytes₀) × (counts .words ≤ i * 2 ^ 32) × Room 0 counts × Goes bytes₀ (first .«region_count») i counts bytes × (written ≡ counts .corrected → Checked bytes header)
 
 abbrev μ-loop : tie.MeasureT-loop
 μ-loop bytes₀ first table header₀ written₀ counts₀ i₀ bytes header written counts i = first .«region_count» - i
@@ -71,7 +83,11 @@ loop-holds c =
       refl,
       omega arith,
       record { words = omega arith; corrected = omega arith; uncorrectable = omega arith },
-      ap (λ (m : ℕ). scrubFrom m 0 (record { image = x; any = false; words = 0; corrected = 0; uncorrectable = 0 })) z ∙ sym (scrub-starts x f),
+      record {
+        state = record { image = x; met = []; visited = false };
+        stands = start-stands x;
+        ends = ap (λ (m : ℕ). scrubFrom m 0 (record { image = x; met = []; visited = false })) z ∙ sym (scrub-starts x f);
+      },
       λ e. record { fine-now = f; count-now = n },
     )
 
@@ -85,11 +101,12 @@ returns-2 c =
     let g = a .before .before .before .before .before .before .before .before .before .args in
     let n = a .before .before .before .before .first .given .0 .0 .«region_count» in
     let z : suc (n - (a .loop .i + 1)) ≡ n - a .loop .i = omega arith in
-    let s = asState (a .loop .counts) (a .loop .bytes) in
-    let e : (record { image = a .loop .bytes; report = none }) ≡ paper.scrub (now (g .bytes)) =
-    sym (from-failed (n - (a .loop .i + 1)) (a .loop .i) s _ _ (parsed-refused (a .loop .bytes) (p .parse2 .result) (p .parse2 .ensures) _ (c .enum-told2 .given .1)))
-    ∙ ap (λ (m : ℕ). scrubFrom m (a .loop .i) s) z ∙ a .loop .inv .4 in
-    (ap (λ (r : Scrubbed). r .report) e, ap (λ (r : Scrubbed). r .image) e)
+    let q = a .loop .inv .4 in
+    let s = q .state in
+    let e : (record { image = s .image; report = none }) ≡ paper.scrub (now (g .bytes)) =
+    sym (from-failed (n - (a .loop .i + 1)) (a .loop .i) s _ _ (ap parseVerdict (sym (q .stands .image)) ∙ parsed-refused (a .loop .bytes) (p .parse2 .result) (p .parse2 .ensures) _ (c .enum-told2 .given .1)))
+    ∙ ap (λ (m : ℕ). scrubFrom m (a .loop .i) s) z ∙ q .ends in
+    (ap (λ (r : Scrubbed). r .report) e, q .stands .image ∙ ap (λ (r : Scrubbed). r .image) e)
 
 scrub-region-requires : tie.Need-scrub-region-requires Inv-loop μ-loop
 scrub-region-requires c κs =
@@ -123,8 +140,8 @@ loop-again c =
       omega (arith, c .before .bytes .given),
       omega (arith, o .scrub-region .ensures .0 .0),
       o .scrub-region .ensures .0 .1,
-      turn (a .loop .i) (a .loop .counts) t x y (j .if2 .header) (ready .0) e (now (g .bytes)) n (omega arith) (a .loop .inv .4),
-      λ f. still (a .loop .i) (a .loop .counts) t x y (j .if2 .header) (ready .0) e (sym (ready .1) ∙ f),
+      turn (now (g .bytes)) n (a .loop .i) (a .loop .counts) t x y (j .if2 .header) (ready .0) (omega arith) (a .loop .inv .4) e,
+      λ f. still (now (g .bytes)) n (a .loop .i) (a .loop .counts) t x y (j .if2 .header) (ready .0) (omega arith) (a .loop .inv .4) e (sym (ready .1) ∙ f),
     )
 
 same-length-3 : tie.Need-same-length-3 Inv-loop μ-loop
@@ -136,10 +153,13 @@ returns-3 c =
     let g = a .before .before .before .before .before .before .before .before .before .args in
     let n = a .before .before .before .before .first .given .0 .0 .«region_count» in
     let z : 0 ≡ n - a .loop .i = omega arith in
-    let s = asState (a .loop .counts) (a .loop .bytes) in
+    let q = a .loop .inv .4 in
+    let s = q .state in
     let e : record-of s ≡ paper.scrub (now (g .bytes)) =
-    sym (from-done (a .loop .i) s) ∙ ap (λ (m : ℕ). scrubFrom m (a .loop .i) s) z ∙ a .loop .inv .4 in
-    (c .report .ensures ∙ ap (λ (r : Scrubbed). r .report) e, ap (λ (r : Scrubbed). r .image) e)
+    sym (from-done (a .loop .i) s) ∙ ap (λ (m : ℕ). scrubFrom m (a .loop .i) s) z ∙ q .ends in (
+      c .report .ensures ∙ stands-report (a .loop .counts) (a .loop .bytes) s (q .stands) ∙ ap (λ (r : Scrubbed). r .report) e,
+      q .stands .image ∙ ap (λ (r : Scrubbed). r .image) e,
+    )
 
 pub scrub-spec : {M : Type 1} → statement M
 scrub-spec =

@@ -1,15 +1,16 @@
 -- `repair::scrubbing::scrub_region` meets its contract. Assumes nothing.
 use mathlib.Core.Path.{_≡_, sym, ap, ap₂, _∙_, subst}
-use mathlib.Core.Bool.{Bool, _||_}
 use mathlib.Core.List.{List}
 use native.Mathlib.Omega.{arith}
 use borrow.Author.Needs.{needs}
 use denote.Ref.{now}
-use Rattle.paper.specs.Scan.{Pair, pairsFrom}
+use Rattle.paper.specs.Scan.{Pair}
 use Rattle.paper.specs.Scrub.{scrubWords}
-use Rattle.repair.specs.Answers.{asState, Room}
+use Rattle.paper.proofs.ScanLaw.{anyOf, mark}
+use Rattle.repair.specs.Answers.{Stands, visitedBy, Room}
+use Rattle.repair.specs.Runs.{visitsAt}
 use Rattle.repair.specs.declared.counts.Counts.{Counts}
-use Rattle.repair.proofs.ScrubbingLaw.{room-visit, region-run}
+use Rattle.repair.proofs.ScrubbingLaw.{room-visit, region-stands}
 use Rattle.repair.proofs.scrubbing.scrub_region.Statement.{statement}
 use Rattle.repair.proofs.scrubbing.scrub_region.Tie as tie
 
@@ -33,9 +34,13 @@ returns c =
     let t = g .counts in
     let e : v .result .words ≡ t .words = ap (λ (q : Counts). q .words) (v .ensures) in (
       (omega (arith, w .ensures .1 .0, r .ensures .few), w .ensures .1 .1),
-      w .ensures .0 ∙ ap (λ (q : Counts). scrubWords (pairsFrom (r .result .words) (r .result .word) (r .result .check)) (asState q x)) (v .ensures)
-          ∙ ap₂ (λ (ps : List Pair) (u : Bool). scrubWords ps (record { image = x; any = t .any || u; words = t .words; corrected = t .corrected; uncorrectable = t .uncorrectable })) (r .ensures .pairs) (r .ensures .visits)
-          ∙ region-run (g .header .«region_count») (g .i) (asState t x),
+      λ s h.
+          let n = g .header .«region_count» in
+          let vs = visitsAt n x (g .i) in
+          let m : Stands (v .result) x (mark (anyOf vs) s) =
+          record { image = h .image; counts = v .ensures ∙ ap₂ visitedBy (h .counts) (r .ensures .visits) } in
+          region-stands n (g .i) t x s h (w .result) (w .last .1 .0)
+          (subst (λ (ps : List Pair). Stands (w .result) (w .last .1 .0) (scrubWords ps (mark (anyOf vs) s))) (r .ensures .pairs) (w .ensures .0 (mark (anyOf vs) s) m)),
     )
 
 pub scrub-region-spec : {M : Type 1} → statement M

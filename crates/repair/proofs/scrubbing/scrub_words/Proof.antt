@@ -4,10 +4,10 @@ use Prim.Native.Nat.{ℕ, suc, _+_, _-_, _≤_}
 use native.Mathlib.Omega.{arith}
 use lib.ListN.{length, take}
 use Rattle.paper.specs.Scan.{Pair, pairsFrom, classAt}
-use Rattle.paper.specs.Scrub.{storedWord, scrubWords}
+use Rattle.paper.specs.Scrub.{State, storedWord, scrubWord, scrubWords}
 use Rattle.ecc.specs.Answers.{asOutcome}
-use Rattle.repair.specs.Answers.{asState, Room}
-use Rattle.repair.proofs.ScrubbingLaw.{one-word, stored-length, room-next, words-next, words-done, counted-words}
+use Rattle.repair.specs.Answers.{Stands, Room}
+use Rattle.repair.proofs.ScrubbingLaw.{one-word, stored-length, room-next, Left, words-next, words-done, counted-words}
 use Rattle.repair.specs.declared.counts.Counts.{Counts}
 use Rattle.repair.proofs.scrubbing.scrub_words.Statement.{statement}
 use Rattle.repair.proofs.scrubbing.scrub_words.Tie as tie
@@ -16,7 +16,7 @@ abbrev record-pair : ℕ → ℕ → Pair
 record-pair w k = record { word = w; check = k }
 
 abbrev Inv-loop : tie.InvT-loop
-Inv-loop table bytes₀ word check n total₀ k₀ bytes total k = (k ≤ n) × (length bytes ≡ length bytes₀) × Room (n - k) total × (scrubWords (pairsFrom (n - k) (word + k) (check + k)) (asState total bytes) ≡ scrubWords (pairsFrom n word check) (asState total₀ bytes₀)) × (total .words ≡ total₀ .words + k)
+Inv-loop table bytes₀ word check n total₀ k₀ bytes total k = (k ≤ n) × (length bytes ≡ length bytes₀) × Room (n - k) total × ((s : State) → Stands total₀ bytes₀ s → Left total bytes (pairsFrom (n - k) (word + k) (check + k)) (scrubWords (pairsFrom n word check) s)) × (total .words ≡ total₀ .words + k)
 
 abbrev μ-loop : tie.MeasureT-loop
 μ-loop table bytes₀ word check n total₀ k₀ bytes total k = n - k
@@ -27,7 +27,7 @@ loop-holds c =
     let n : g .n - 0 ≡ g .n = omega arith in
     let w : g .word + 0 ≡ g .word = omega arith in
     let k : g .check + 0 ≡ g .check = omega arith in
-    (omega arith, refl, rw n (c .before .pre .2), rw (n, w, k), omega arith)
+    (omega arith, refl, rw n (c .before .pre .2), λ s h. record { state = s; stands = h; ends = rw (n, w, k) }, omega arith)
 
 scrub-word-requires : tie.Need-scrub-word-requires Inv-loop μ-loop
 scrub-word-requires c κs = (omega arith, omega arith, c .before .before .before .before .pre .3)
@@ -49,10 +49,13 @@ loop-again c =
       ap length e ∙ stored-length (classAt (a .loop .bytes) p) p (a .loop .bytes) ∙ a .loop .inv .1,
       subst (Room (g .n - (a .loop .k + 1))) (sym (c .count-word .ensures))
           (room-next (g .n - (a .loop .k + 1)) (a .loop .total) (asOutcome (v .scrub-word .result)) (subst (λ (m : ℕ). Room m (a .loop .total)) n (a .loop .inv .2))),
-      ap (scrubWords (pairsFrom (g .n - (a .loop .k + 1)) (g .word + (a .loop .k + 1)) (g .check + (a .loop .k + 1))))
-          (ap (λ (z : Counts). asState z (v .scrub-word .last .1 .0)) (c .count-word .ensures)
-          ∙ one-word (a .loop .total) (a .loop .bytes) (v .scrub-word .last .1 .0) p (asOutcome (v .scrub-word .result)) (v .scrub-word .ensures .0) e)
-          ∙ sym (words-next (g .n) (g .word) (g .check) (a .loop .k) (asState (a .loop .total) (a .loop .bytes)) (omega arith)) ∙ a .loop .inv .3,
+      λ s h. let l = a .loop .inv .3 s h in
+          record {
+            state = scrubWord p (l .state);
+            stands = subst (λ (z : Counts). Stands z (v .scrub-word .last .1 .0) (scrubWord p (l .state))) (sym (c .count-word .ensures))
+                (one-word (a .loop .total) (a .loop .bytes) (v .scrub-word .last .1 .0) p (asOutcome (v .scrub-word .result)) (l .state) (l .stands) (v .scrub-word .ensures .0) e);
+            ends = sym (words-next (g .n) (g .word) (g .check) (a .loop .k) (l .state) (omega arith)) ∙ l .ends;
+          },
       ap (λ (z : Counts). z .words) (c .count-word .ensures) ∙ counted-words (a .loop .total) (asOutcome (v .scrub-word .result)) ∙ omega arith,
     )
 
@@ -61,7 +64,8 @@ returns c =
     let a = c .before in
     let g = a .before .before .args in
     let r = a .loop .inv .2 in (
-      sym (words-done (g .n) (g .word) (g .check) (a .loop .k) (asState (a .loop .total) (a .loop .bytes)) (omega arith)) ∙ a .loop .inv .3,
+      λ s h. let l = a .loop .inv .3 s h in
+          subst (Stands (a .loop .total) (a .loop .bytes)) (sym (words-done (g .n) (g .word) (g .check) (a .loop .k) (l .state) (omega arith)) ∙ l .ends) (l .stands),
       (omega arith, record { words = omega (arith, r .words); corrected = r .corrected; uncorrectable = r .uncorrectable }),
     )
 
