@@ -1,4 +1,4 @@
--- No two answers fit one promise: each is read back from what `asOutcome`, `asWord` and `asReport` make of it. Assumes nothing.
+-- No two answers fit one promise. (`asOutcome`, `asWord` and `asReport` tell every two apart: each is read back from what they make of it.) Assumes nothing.
 use mathlib.Core.Path.{_≡_, refl, sym, ap, _∙_}
 use mathlib.Core.Option.{Option, none, some}
 use Rattle.paper.specs.Parity.{Outcome, cleanWord, correctedWord, uncorrectableWord}
@@ -9,6 +9,19 @@ use Rattle.ecc.specs.declared.PlaneWord.{PlaneWord}
 use Rattle.ecc.specs.declared.PlaneWord.the-variants.{Word, Nothing}
 use Rattle.ecc.specs.declared.EccReport.{EccReport}
 use Rattle.ecc.specs.Answers.{asOutcome, asWord, asReport}
+use denote.Ref.{now}
+use Rattle.paper.proofs.OneAnswer.{OneAnswer, OneAnswerAnd, agree}
+use Rattle.ecc.proofs.plane_kind_for.Reads as plane-kind-for
+use Rattle.ecc.proofs.check_byte.Reads as check-byte
+use Rattle.ecc.proofs.decode_word.Reads as decode-word
+use Rattle.ecc.proofs.EccReport.is_clean.Reads as is-clean
+use Rattle.ecc.proofs.EccReport.needs_scrub.Reads as needs-scrub
+use Rattle.ecc.proofs.plane_word.Reads as plane-word
+use Rattle.ecc.proofs.plane_scan.Reads as plane-scan
+use Rattle.ecc.proofs.places.place_checks.Reads as place-checks
+use Rattle.ecc.proofs.places.check_by.Reads as check-by
+use Rattle.ecc.proofs.decode_by.Reads as decode-by
+use Rattle.ecc.proofs.plane_scan_by.Reads as plane-scan-by
 
 status : Outcome → WordStatus
 status (cleanWord w) = Clean w
@@ -39,3 +52,38 @@ one-word a b e = sym (word-back a) ∙ ap word e ∙ word-back b
 pub one-report : (a b : EccReport) → asReport a ≡ asReport b → a ≡ b
 one-report a b e =
     ap (λ (r : Report). record { words = r .words; corrected = r .corrected; uncorrectable = r .uncorrectable }) e
+
+-- ---- no two answers of a function fit its promise
+
+pub one-answer-plane-kind-for : OneAnswer plane-kind-for.Learnt
+one-answer-plane-kind-for κs a r r′ s s′ p q = agree p q
+
+pub one-answer-check-byte : OneAnswer check-byte.Learnt
+one-answer-check-byte κs a r r′ s s′ p q = agree p q
+
+pub one-answer-decode-word : OneAnswer decode-word.Learnt
+one-answer-decode-word κs a r r′ s s′ p q = one-status r r′ (agree p q)
+
+pub one-answer-is-clean : OneAnswer is-clean.Learnt
+one-answer-is-clean κs a r r′ s s′ p q = agree p q
+
+pub one-answer-needs-scrub : OneAnswer needs-scrub.Learnt
+one-answer-needs-scrub κs a r r′ s s′ p q = agree p q
+
+pub one-answer-plane-word : OneAnswer plane-word.Learnt
+one-answer-plane-word κs a r r′ s s′ p q = one-word r r′ (agree p q)
+
+pub one-answer-plane-scan : OneAnswer plane-scan.Learnt
+one-answer-plane-scan κs a r r′ s s′ p q = one-report r r′ (agree p q)
+
+pub one-answer-place-checks : OneAnswerAnd place-checks.Learnt (λ κs s. now (s .0))
+one-answer-place-checks κs a r r′ s s′ p q = (refl, agree p q)
+
+pub one-answer-check-by : OneAnswer check-by.Learnt
+one-answer-check-by κs a r r′ s s′ p q = agree p q
+
+pub one-answer-decode-by : OneAnswer decode-by.Learnt
+one-answer-decode-by κs a r r′ s s′ p q = one-status r r′ (agree p q)
+
+pub one-answer-plane-scan-by : OneAnswer plane-scan-by.Learnt
+one-answer-plane-scan-by κs a r r′ s s′ p q = one-report r r′ (agree p q)

@@ -1,4 +1,4 @@
--- No two refusals have the same number and detail: they are read back from the two. Assumes nothing.
+-- No two refusals have the same number and detail: they are read back from the two. No two answers fit one promise. Assumes nothing.
 use mathlib.Core.Path.{_≡_, refl, sym, ap₂, _∙_}
 use mathlib.Core.List.{List, [], _∷_}
 use Prim.Native.Nat.{ℕ}
@@ -7,6 +7,9 @@ use Rattle.paper.specs.Refusals.{Verdict, refuse}
 use Rattle.error.specs.declared.Refusal.{Refusal}
 use Rattle.error.specs.declared.Refusal.the-variants.{Truncated, BadMagic, ForeignEndian, UnsupportedVersion, BadPrologueChecksum, TooManyRegions, RegionOutOfBounds, DuplicateRegion, BadRecordStride, Overflow, TooLarge, OverlappingRegions, NoRoom, BadPlan}
 use Rattle.error.specs.Refused.{numberOf, detailOf, asVerdict}
+use Rattle.paper.proofs.OneAnswer.{OneAnswer, agree}
+use Rattle.error.proofs.Refusal.number.Reads as number
+use Rattle.error.proofs.Refusal.detail.Reads as detail
 
 -- the refusal of a number and a detail, by its place in the table; number 0 is none
 decode : ℕ → ℕ → Refusal
@@ -37,3 +40,11 @@ one-refusal a b e =
     let n : numberOf a ≡ numberOf b = cc in
     let d : detailOf a ≡ detailOf b = cc in
     sym (decoded a) ∙ ap₂ decode n d ∙ decoded b
+
+-- ---- no two answers of a function fit its promise
+
+pub one-answer-number : OneAnswer number.Learnt
+one-answer-number κs a r r′ s s′ p q = agree p q
+
+pub one-answer-detail : OneAnswer detail.Learnt
+one-answer-detail κs a r r′ s s′ p q = agree p q

@@ -4,3 +4,4 @@ pub mod Methods
 pub mod Parts
 pub mod Shown
 pub mod Thin
+pub mod OneAnswer

@@ -1,8 +1,9 @@
 // A pool of bytes, after view.rs. (FORMAT 6)
 ghost use mathlib.Core.Path.{_≡_};
 ghost use lib.ListN.{length};
-ghost use Rattle.paper.specs.Views.{poolRange, partIn};
+ghost use Rattle.paper.specs.Views.{poolRange};
 ghost use Rattle.tables.specs.Answers.{asPlace};
+ghost use Rattle.tables.specs.Parts.{VeryPartIn};
 use tables::Place;
 
 pub struct Pool<'a> {
@@ -31,7 +32,7 @@ impl<'a> Pool<'a> {
 
     // The very bytes of a part; none where it doesn't end inside the pool.
     pub fn slice(self, offset: u32, len: u32) -> &'a [u8]
-        ensures { λ r. ⌜ now r ≡ partIn (now (self .entry .bytes)) (poolRange (length (now (self .entry .bytes))) offset len) ⌝ }
+        ensures { λ r. ⌜ VeryPartIn (self .entry .bytes) r (poolRange (length (now (self .entry .bytes))) offset len) ⌝ }
     {
         tables::pool_bytes(self.bytes, offset, len)
     }

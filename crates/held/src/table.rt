@@ -4,8 +4,9 @@ ghost use mathlib.Core.Bool.{cond};
 ghost use mathlib.Core.List.{[]};
 ghost use lib.Dec.{eqb};
 ghost use lib.ListN.{length};
-ghost use Rattle.paper.specs.Views.{isTable, recordCount, recordRange, rangeIsForward, partIn};
+ghost use Rattle.paper.specs.Views.{isTable, recordCount, recordRange, rangeIsForward};
 ghost use Rattle.tables.specs.Answers.{asPlace};
+ghost use Rattle.tables.specs.Parts.{PartAt, VeryPartIn};
 use tables::Place;
 
 // Records of stride bytes, one behind the other.
@@ -17,7 +18,7 @@ pub struct RecordTable<'a> {
 impl<'a> RecordTable<'a> {
     // Bytes that are no table of that stride make the table without bytes, whose stride is 0.
     pub fn from_bytes(bytes: &'a [u8], stride: usize) -> RecordTable<'a>
-        ensures { λ r. ⌜ (now (r .bytes) ≡ cond (isTable (length (now (bytes .entry))) stride) (now (bytes .entry)) [])
+        ensures { λ r. ⌜ PartAt (bytes .entry) (r .bytes) 0 (cond (isTable (length (now (bytes .entry))) stride) (now (bytes .entry)) [])
             × (r .stride ≡ cond (isTable (length (now (bytes .entry))) stride) stride 0) ⌝ }
     {
         RecordTable {
@@ -53,7 +54,7 @@ impl<'a> RecordTable<'a> {
 
     // The very bytes of a record; none where there is no such record.
     pub fn get(self, index: usize) -> &'a [u8]
-        ensures { λ r. ⌜ now r ≡ partIn (now (self .entry .bytes)) (recordRange (length (now (self .entry .bytes))) (self .entry .stride) index) ⌝ }
+        ensures { λ r. ⌜ VeryPartIn (self .entry .bytes) r (recordRange (length (now (self .entry .bytes))) (self .entry .stride) index) ⌝ }
     {
         tables::record_bytes(self.bytes, self.stride, index)
     }
@@ -67,7 +68,7 @@ impl<'a> RecordTable<'a> {
 }
 
 fn table_bytes(bytes: &[u8], stride: usize) -> &[u8]
-    ensures { λ r. ⌜ now r ≡ cond (isTable (length (now (bytes .entry))) stride) (now (bytes .entry)) [] ⌝ }
+    ensures { λ r. ⌜ PartAt (bytes .entry) r 0 (cond (isTable (length (now (bytes .entry))) stride) (now (bytes .entry)) []) ⌝ }
 {
     if tables::is_table(bytes, stride) {
         bytes

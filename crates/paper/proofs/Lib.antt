@@ -13,3 +13,4 @@ pub mod ParseLaw
 pub mod ScanLaw
 pub mod PlaneLaw
 pub mod ProgramsLaw
+pub mod OneAnswer

@@ -1,10 +1,12 @@
 // Parts of an image, record tables and pools, after view.rs: plain functions on slices and numbers. (FORMAT 6)
 ghost use mathlib.Core.Path.{_≡_};
+ghost use mathlib.Core.List.{[]};
 ghost use Prim.Native.Nat.{ℕ, _+_, _*_, _≤_};
 ghost use lib.ListN.{length};
-ghost use Rattle.paper.specs.Views.{bytesSpan, tableSpan, isTable, recordCount, recordRange, rangeIsForward, poolRange, partOf, partIn};
+ghost use Rattle.paper.specs.Views.{bytesSpan, tableSpan, isTable, recordCount, recordRange, rangeIsForward, poolRange};
 ghost use Rattle.layout.specs.Regions.{asEntry};
 ghost use Rattle.tables.specs.Answers.{asSpan, asPlace};
+ghost use Rattle.tables.specs.Parts.{PartAt, VeryPartOf, VeryPartIn};
 use error::Refusal;
 use layout::Region;
 
@@ -18,6 +20,14 @@ pub enum PartSpan {
 pub enum Place {
     At { start: usize, end: usize },
     Nothing,
+}
+
+// The empty part that starts at an offset; the one at 0 stands for nothing.
+fn empty_at(bytes: &[u8], at: usize) -> &[u8]
+    requires { ⌜ at ≤ length (now bytes) ⌝ }
+    ensures { λ r. ⌜ PartAt (bytes .entry) r at [] ⌝ }
+{
+    &bytes[at..at]
 }
 
 // A region's place in an image of len bytes.
@@ -34,12 +44,12 @@ pub fn region_span(len: usize, region: Region) -> PartSpan
 
 // The very bytes of a region; none if refused.
 pub fn region_bytes(bytes: &[u8], region: Region) -> &[u8]
-    ensures { λ r. ⌜ now r ≡ partOf (now (bytes .entry)) (bytesSpan (length (now (bytes .entry))) (asEntry region)) ⌝ }
+    ensures { λ r. ⌜ VeryPartOf (bytes .entry) r (bytesSpan (length (now (bytes .entry))) (asEntry region)) ⌝ }
 {
     let span = region_span(bytes.len(), region);
     match span {
         PartSpan::Bytes { start, end } => &bytes[start..end],
-        PartSpan::Refused(_) => &bytes[0..0],
+        PartSpan::Refused(_) => empty_at(bytes, 0),
     }
 }
 
@@ -66,12 +76,12 @@ pub fn records_span(len: usize, region: Region, stride: usize) -> PartSpan
 }
 
 pub fn records_bytes(bytes: &[u8], region: Region, stride: usize) -> &[u8]
-    ensures { λ r. ⌜ now r ≡ partOf (now (bytes .entry)) (tableSpan (length (now (bytes .entry))) (asEntry region) stride) ⌝ }
+    ensures { λ r. ⌜ VeryPartOf (bytes .entry) r (tableSpan (length (now (bytes .entry))) (asEntry region) stride) ⌝ }
 {
     let span = records_span(bytes.len(), region, stride);
     match span {
         PartSpan::Bytes { start, end } => &bytes[start..end],
-        PartSpan::Refused(_) => &bytes[0..0],
+        PartSpan::Refused(_) => empty_at(bytes, 0),
     }
 }
 
@@ -115,12 +125,12 @@ pub fn record_place(len: usize, stride: usize, index: usize) -> Place
 
 // The very bytes of a record; none where there is no such record.
 pub fn record_bytes(bytes: &[u8], stride: usize, index: usize) -> &[u8]
-    ensures { λ r. ⌜ now r ≡ partIn (now (bytes .entry)) (recordRange (length (now (bytes .entry))) stride index) ⌝ }
+    ensures { λ r. ⌜ VeryPartIn (bytes .entry) r (recordRange (length (now (bytes .entry))) stride index) ⌝ }
 {
     let place = record_place(bytes.len(), stride, index);
     match place {
         Place::At { start, end } => &bytes[start..end],
-        Place::Nothing => &bytes[0..0],
+        Place::Nothing => empty_at(bytes, 0),
     }
 }
 
@@ -148,11 +158,11 @@ pub fn pool_place(len: usize, offset: u32, size: u32) -> Place
 }
 
 pub fn pool_bytes(bytes: &[u8], offset: u32, size: u32) -> &[u8]
-    ensures { λ r. ⌜ now r ≡ partIn (now (bytes .entry)) (poolRange (length (now (bytes .entry))) offset size) ⌝ }
+    ensures { λ r. ⌜ VeryPartIn (bytes .entry) r (poolRange (length (now (bytes .entry))) offset size) ⌝ }
 {
     let place = pool_place(bytes.len(), offset, size);
     match place {
         Place::At { start, end } => &bytes[start..end],
-        Place::Nothing => &bytes[0..0],
+        Place::Nothing => empty_at(bytes, 0),
     }
 }

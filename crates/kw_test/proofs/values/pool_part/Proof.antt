@@ -30,6 +30,7 @@ use denote.Triple.Entry.{onEntry}
 use denote.Triple.Walked.{walkOf}
 use Rattle.paper.specs.Views.{partIn, poolRange}
 use Rattle.tables.specs.Answers.{asPlace}
+use Rattle.tables.specs.Parts.{VeryPartIn}
 use Rattle.kw_test.specs.Reader.{partNumbers}
 use Rattle.kw_test.specs.Held.{partAnswer}
 use Rattle.held.proofs.pool.Pool as T
@@ -116,7 +117,7 @@ module _ {M : Type 1} (𝓤 : URA M) (H : Heap 𝓤) (𝓜 : Model 𝓤 H) (𝓖
       assigns ! (of-opd ! (load ! (from ! (stop !)) (look ! 16 refl))) (from ! (stop !)) (init ! 4 refl (LL.lawful (T.the-type αᵉ) (T′.the-laws αᵉ) 𝓤 H A W .typed d _ d-is .0)) $ nothing ! $
       owned ! u32 (Is u32) (uint-makes 𝓤 H A W w32) n _ n-is $ fjoin ! $ owned ! u32 (Is u32) (uint-makes 𝓤 H A W w32) o _ o-is $ fjoin ! $ move ! (3 ∷ 0 ∷ []) $ fjoin ! $ move ! (2 ∷ 0 ∷ []) $
       asks-told 𝓤 H 𝓜 𝓖 𝓡 code.env (sliced.signature .result) (sliced.signature .params) (sliced.ended .kept) (sliced.clauses 𝓤 H A (𝓜 .mem) (𝓡 .run)) #sliced sliced-def.routine code.calls-held·pool·Pool·slice (sliced-thm.met 𝓤 H 𝓜 𝓖 𝓡) κs qs (d, (o, (n, tt))) (du ∷ [], (vint w32 o ∷ [], (vint w32 n ∷ [], tt))) tt (id⊢ 𝓤 _)
-      (λ q. now q ≡ partIn (now (d .bytes)) (poolRange (length (now (d .bytes))) o n)) (λ q ws. id⊢ 𝓤 _) (du ∷ vint w32 o ∷ vint w32 n ∷ []) refl (and-then ! (load ! (from ! (stop !)) (look ! 3 refl)) (and-then ! (load ! (from ! (stop !)) (look ! 19 refl)) (and-then ! (load ! (from ! (stop !)) (look ! 17 refl)) (no-more !)))) (λ q qu q-is h.
+      (λ q. VeryPartIn (d .bytes) q (poolRange (length (now (d .bytes))) o n)) (λ q ws. id⊢ 𝓤 _) (du ∷ vint w32 o ∷ vint w32 n ∷ []) refl (and-then ! (load ! (from ! (stop !)) (look ! 3 refl)) (and-then ! (load ! (from ! (stop !)) (look ! 19 refl)) (and-then ! (load ! (from ! (stop !)) (look ! 17 refl)) (no-more !)))) (λ q qu q-is h.
       land ! (from ! (stop !)) (init ! 6 refl (shr-slice-lawful 𝓤 H A W erased (κs .0) u8 .typed q _ q-is .0)) $ nothing ! $ move ! (1 ∷ 0 ∷ []) $ fjoin ! $ move ! (2 ∷ 0 ∷ []) $ fjoin ! $ move ! (2 ∷ 0 ∷ []) $ fjoin ! $
       move ! (1 ∷ 0 ∷ []) $
       asks-told 𝓤 H 𝓜 𝓖 𝓡 code.env (put.signature .result) (put.signature .params) (put.ended .kept) (put.clauses 𝓤 H A (𝓜 .mem) (𝓡 .run)) #put put-def.routine code.calls-kw-test·values·pool-answer (put-thm.met 𝓤 H 𝓜 𝓖 𝓡) κs qs (w, (p, (q, tt))) (wu ∷ [], (pu ∷ [], (qu ∷ [], tt))) tt (id⊢ 𝓤 _)
@@ -124,7 +125,7 @@ module _ {M : Type 1} (𝓤 : URA M) (H : Heap 𝓤) (𝓜 : Model 𝓤 H) (𝓖
       land ! (from ! (stop !)) (init ! 22 refl (array-lawful 𝓤 H A W u64 (uint-lawful 𝓤 H A W w64) 7 .typed r _ r-is .0)) $
       returns ! (look ! 22 refl) $ forget ! 2 refl $ forget ! 4 refl $ forget ! 6 refl $ forget ! 8 refl $ forget ! 10 refl $ forget ! 12 refl $ forget ! 14 refl $ forget ! 16 refl $ forget ! 18 refl $ forget ! 20 refl $ forget ! 22 refl $
       move ! (22 ∷ 23 ∷ []) $ free1 ! $ move ! (20 ∷ 21 ∷ []) $ free1 ! $ move ! (18 ∷ 19 ∷ []) $ free1 ! $ move ! (16 ∷ 17 ∷ []) $ free1 ! $ move ! (14 ∷ 15 ∷ []) $ free1 ! $ move ! (12 ∷ 13 ∷ []) $ free1 ! $ move ! (10 ∷ 11 ∷ []) $ free1 ! $ move ! (8 ∷ 9 ∷ []) $ free1 ! $ move ! (6 ∷ 7 ∷ []) $ free1 ! $ move ! (4 ∷ 5 ∷ []) $ free1 ! $ move ! (2 ∷ 3 ∷ []) $ free1 ! $ free0 ! $
-      keep ! (0 ∷ 1 ∷ []) $ by ! (exits r u (pool-is (now x) o n (ap now e) (ap now f) g h j))))))))))))))))))
+      keep ! (0 ∷ 1 ∷ []) $ by ! (exits r u (pool-is (now x) o n (ap now e) (ap now f) g (h .holds) j))))))))))))))))))
 
 pub pool-part-spec : {M : Type 1} → stated.statement M
 unfolding code.routine

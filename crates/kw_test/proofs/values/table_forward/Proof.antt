@@ -28,6 +28,7 @@ use denote.Struct.Laws as LL
 use denote.Triple.Entry.{onEntry}
 use denote.Triple.Walked.{walkOf}
 use Rattle.paper.specs.Views.{recordCount, rangeIsForward}
+use Rattle.tables.specs.Parts.{PartAt}
 use Rattle.kw_test.specs.Held.{tableOf, strideOf}
 use Rattle.held.proofs.table.RecordTable as T
 use Rattle.held.proofs.table.RecordTable.Laws as T′
@@ -84,7 +85,7 @@ module _ {M : Type 1} (𝓤 : URA M) (H : Heap 𝓤) (𝓜 : Model 𝓤 H) (𝓖
       move ! (16 ∷ []) $ use1 W (Tok ⊛ ‵ (ShrSlice (named 0) (κs .0) u8 .own x (bytesVal x ∷ []))) enters $ split ! $ nothing ! $ owned ! usize (Is usize) (uint-makes 𝓤 H A W w64) k _ k-is $ fjoin ! $ move ! (2 ∷ 0 ∷ []) $ fjoin ! $
       move ! (1 ∷ 0 ∷ []) $
       asks-told 𝓤 H 𝓜 𝓖 𝓡 code.env (made.signature .result) (made.signature .params) (made.ended .kept) (made.clauses 𝓤 H A (𝓜 .mem) (𝓡 .run)) #made made-def.routine code.calls-held·table·RecordTable·from-bytes (made-thm.met 𝓤 H 𝓜 𝓖 𝓡) κs qs (x, (k, tt)) (bytesVal x ∷ [], (vint w64 k ∷ [], tt)) tt (id⊢ 𝓤 _)
-      (λ d. (now (d .bytes) ≡ tableOf (now x) k) × (d .stride ≡ strideOf (now x) k)) (λ d ws. id⊢ 𝓤 _) (bytesVal x ∷ vint w64 k ∷ []) refl (and-then ! (load ! (from ! (stop !)) (look ! 13 refl)) (and-then ! (load ! (from ! (stop !)) (look ! 11 refl)) (no-more !))) (λ d du d-is e.
+      (λ d. PartAt x (d .bytes) 0 (tableOf (now x) k) × (d .stride ≡ strideOf (now x) k)) (λ d ws. id⊢ 𝓤 _) (bytesVal x ∷ vint w64 k ∷ []) refl (and-then ! (load ! (from ! (stop !)) (look ! 13 refl)) (and-then ! (load ! (from ! (stop !)) (look ! 11 refl)) (no-more !))) (λ d du d-is e.
       land ! (from ! (stop !)) (init ! 4 refl (LL.lawful (T.the-type αᵉ) (T′.the-laws αᵉ) 𝓤 H A W .typed d _ d-is .0)) $
       assigns ! (of-opd ! (load ! (from ! (stop !)) (look ! 4 refl))) (from ! (stop !)) (init ! 2 refl (LL.lawful (T.the-type αᵉ) (T′.the-laws αᵉ) 𝓤 H A W .typed d _ d-is .0)) $ nothing ! $
       owned ! u32 (Is u32) (uint-makes 𝓤 H A W w32) count _ count-is $ fjoin ! $ owned ! u32 (Is u32) (uint-makes 𝓤 H A W w32) first _ first-is $ fjoin ! $ owned ! usize (Is usize) (uint-makes 𝓤 H A W w64) at _ at-is $ fjoin ! $
@@ -94,7 +95,7 @@ module _ {M : Type 1} (𝓤 : URA M) (H : Heap 𝓤) (𝓜 : Model 𝓤 H) (𝓖
       land ! (from ! (stop !)) (init ! 16 refl (bool-lawful 𝓤 H A W .typed r _ r-is .0)) $
       returns ! (look ! 16 refl) $ forget ! 2 refl $ forget ! 4 refl $ forget ! 6 refl $ forget ! 8 refl $ forget ! 10 refl $ forget ! 12 refl $ forget ! 14 refl $ forget ! 16 refl $
       move ! (16 ∷ 17 ∷ []) $ free1 ! $ move ! (14 ∷ 15 ∷ []) $ free1 ! $ move ! (12 ∷ 13 ∷ []) $ free1 ! $ move ! (10 ∷ 11 ∷ []) $ free1 ! $ move ! (8 ∷ 9 ∷ []) $ free1 ! $ move ! (6 ∷ 7 ∷ []) $ free1 ! $ move ! (4 ∷ 5 ∷ []) $ free1 ! $ move ! (2 ∷ 3 ∷ []) $ free1 ! $ free0 ! $
-      keep ! (0 ∷ 1 ∷ []) $ by ! (exits r u (forward-is (now x) k (e .0) (e .1) at first count f))))))))))))
+      keep ! (0 ∷ 1 ∷ []) $ by ! (exits r u (forward-is (now x) k (e .0 .holds) (e .1) at first count f))))))))))))
 
 pub table-forward-spec : {M : Type 1} → stated.statement M
 unfolding code.routine

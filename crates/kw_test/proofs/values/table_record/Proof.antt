@@ -30,6 +30,7 @@ use denote.Triple.Entry.{onEntry}
 use denote.Triple.Walked.{walkOf}
 use Rattle.paper.specs.Views.{partIn, recordRange}
 use Rattle.tables.specs.Answers.{asPlace}
+use Rattle.tables.specs.Parts.{PartAt, VeryPartIn}
 use Rattle.kw_test.specs.Held.{tableOf, strideOf, partAnswer}
 use Rattle.held.proofs.table.RecordTable as T
 use Rattle.held.proofs.table.RecordTable.Laws as T′
@@ -96,7 +97,7 @@ module _ {M : Type 1} (𝓤 : URA M) (H : Heap 𝓤) (𝓜 : Model 𝓤 H) (𝓖
       move ! (18 ∷ []) $ use1 W (Tok ⊛ ‵ (ShrSlice (named 0) (κs .0) u8 .own x (bytesVal x ∷ []))) enters $ split ! $ nothing ! $ owned ! usize (Is usize) (uint-makes 𝓤 H A W w64) k _ k-is $ fjoin ! $ move ! (2 ∷ 0 ∷ []) $ fjoin ! $
       move ! (1 ∷ 0 ∷ []) $
       asks-told 𝓤 H 𝓜 𝓖 𝓡 code.env (made.signature .result) (made.signature .params) (made.ended .kept) (made.clauses 𝓤 H A (𝓜 .mem) (𝓡 .run)) #made made-def.routine code.calls-held·table·RecordTable·from-bytes (made-thm.met 𝓤 H 𝓜 𝓖 𝓡) κs qs (x, (k, tt)) (bytesVal x ∷ [], (vint w64 k ∷ [], tt)) tt (id⊢ 𝓤 _)
-      (λ d. (now (d .bytes) ≡ tableOf (now x) k) × (d .stride ≡ strideOf (now x) k)) (λ d ws. id⊢ 𝓤 _) (bytesVal x ∷ vint w64 k ∷ []) refl (and-then ! (load ! (from ! (stop !)) (look ! 15 refl)) (and-then ! (load ! (from ! (stop !)) (look ! 13 refl)) (no-more !))) (λ d du d-is e.
+      (λ d. PartAt x (d .bytes) 0 (tableOf (now x) k) × (d .stride ≡ strideOf (now x) k)) (λ d ws. id⊢ 𝓤 _) (bytesVal x ∷ vint w64 k ∷ []) refl (and-then ! (load ! (from ! (stop !)) (look ! 15 refl)) (and-then ! (load ! (from ! (stop !)) (look ! 13 refl)) (no-more !))) (λ d du d-is e.
       land ! (from ! (stop !)) (init ! 10 refl (LL.lawful (T.the-type αᵉ) (T′.the-laws αᵉ) 𝓤 H A W .typed d _ d-is .0)) $
       assigns ! (of-opd ! (load ! (from ! (stop !)) (look ! 10 refl))) (from ! (stop !)) (init ! 6 refl (LL.lawful (T.the-type αᵉ) (T′.the-laws αᵉ) 𝓤 H A W .typed d _ d-is .0)) $ nothing ! $
       owned ! usize (Is usize) (uint-makes 𝓤 H A W w64) i _ i-is $ fjoin ! $
@@ -107,14 +108,14 @@ module _ {M : Type 1} (𝓤 : URA M) (H : Heap 𝓤) (𝓜 : Model 𝓤 H) (𝓖
       assigns ! (of-opd ! (load ! (from ! (stop !)) (look ! 11 refl))) (from ! (stop !)) (init ! 3 refl (LL.lawful (T.the-type αᵉ) (T′.the-laws αᵉ) 𝓤 H A W .typed d _ d-is .0)) $ nothing ! $
       owned ! usize (Is usize) (uint-makes 𝓤 H A W w64) i _ i-is $ fjoin ! $ move ! (3 ∷ 0 ∷ []) $ fjoin ! $ move ! (2 ∷ 0 ∷ []) $
       asks-told 𝓤 H 𝓜 𝓖 𝓡 code.env (got.signature .result) (got.signature .params) (got.ended .kept) (got.clauses 𝓤 H A (𝓜 .mem) (𝓡 .run)) #got got-def.routine code.calls-held·table·RecordTable·get (got-thm.met 𝓤 H 𝓜 𝓖 𝓡) κs qs (d, (i, tt)) (du ∷ [], (vint w64 i ∷ [], tt)) tt (id⊢ 𝓤 _)
-      (λ q. now q ≡ partIn (now (d .bytes)) (recordRange (length (now (d .bytes))) (d .stride) i)) (λ q ws. id⊢ 𝓤 _) (du ∷ vint w64 i ∷ []) refl (and-then ! (load ! (from ! (stop !)) (look ! 2 refl)) (and-then ! (load ! (from ! (stop !)) (look ! 12 refl)) (no-more !))) (λ q qu q-is g.
+      (λ q. VeryPartIn (d .bytes) q (recordRange (length (now (d .bytes))) (d .stride) i)) (λ q ws. id⊢ 𝓤 _) (du ∷ vint w64 i ∷ []) refl (and-then ! (load ! (from ! (stop !)) (look ! 2 refl)) (and-then ! (load ! (from ! (stop !)) (look ! 12 refl)) (no-more !))) (λ q qu q-is g.
       land ! (from ! (stop !)) (init ! 5 refl (shr-slice-lawful 𝓤 H A W erased (κs .0) u8 .typed q _ q-is .0)) $ nothing ! $ move ! (1 ∷ 0 ∷ []) $ fjoin ! $ move ! (2 ∷ 0 ∷ []) $ fjoin ! $ move ! (1 ∷ 0 ∷ []) $
       asks-told 𝓤 H 𝓜 𝓖 𝓡 code.env (put.signature .result) (put.signature .params) (put.ended .kept) (put.clauses 𝓤 H A (𝓜 .mem) (𝓡 .run)) #put put-def.routine code.calls-kw-test·values·part-answer (put-thm.met 𝓤 H 𝓜 𝓖 𝓡) κs qs (p, (q, tt)) (pu ∷ [], (qu ∷ [], tt)) tt (id⊢ 𝓤 _)
       (λ r. r ≡ partAnswer (asPlace p) (now q)) (λ r ws. id⊢ 𝓤 _) (pu ∷ qu ∷ []) refl (and-then ! (load ! (from ! (stop !)) (look ! 7 refl)) (and-then ! (load ! (from ! (stop !)) (look ! 3 refl)) (no-more !))) (λ r u r-is h.
       land ! (from ! (stop !)) (init ! 18 refl (array-lawful 𝓤 H A W u64 (uint-lawful 𝓤 H A W w64) 5 .typed r _ r-is .0)) $
       returns ! (look ! 18 refl) $ forget ! 2 refl $ forget ! 4 refl $ forget ! 6 refl $ forget ! 8 refl $ forget ! 10 refl $ forget ! 12 refl $ forget ! 14 refl $ forget ! 16 refl $ forget ! 18 refl $
       move ! (18 ∷ 19 ∷ []) $ free1 ! $ move ! (16 ∷ 17 ∷ []) $ free1 ! $ move ! (14 ∷ 15 ∷ []) $ free1 ! $ move ! (12 ∷ 13 ∷ []) $ free1 ! $ move ! (10 ∷ 11 ∷ []) $ free1 ! $ move ! (8 ∷ 9 ∷ []) $ free1 ! $ move ! (6 ∷ 7 ∷ []) $ free1 ! $ move ! (4 ∷ 5 ∷ []) $ free1 ! $ move ! (2 ∷ 3 ∷ []) $ free1 ! $ free0 ! $
-      keep ! (0 ∷ 1 ∷ []) $ by ! (exits r u (record-is (now x) k (e .0) (e .1) i f g h)))))))))))))))
+      keep ! (0 ∷ 1 ∷ []) $ by ! (exits r u (record-is (now x) k (e .0 .holds) (e .1) i f (g .holds) h)))))))))))))))
 
 pub table-record-spec : {M : Type 1} → stated.statement M
 unfolding code.routine

@@ -29,6 +29,7 @@ use denote.Steps.{heard, nothing}
 use denote.Struct.Rest.{own-shut}
 use denote.Triple.Entry.{onEntry}
 use Rattle.paper.specs.Views.{isTable}
+use Rattle.tables.specs.Parts.{PartAt}
 use Rattle.held.proofs.table.RecordTable as T
 use Rattle.held.proofs.table.RecordTable.Laws as T′
 use Rattle.held.proofs.table.table_bytes as first
@@ -79,12 +80,12 @@ module _ {M : Type 1} (𝓤 : URA M) (H : Heap 𝓤) (𝓜 : Model 𝓤 H) (𝓖
   abbrev table? : {X : Type 0} → X → X → X
   table? x y = cond (isTable (length (now s)) k) x y
 
-  exits : (r : RefT (List ℕ)) (n : ℕ) → now r ≡ table? (now s) [] → n ≡ table? k 0 → ent 𝓤 (⋆ 𝓤 H A (‵ (usize .own n (vint w64 n ∷ [])) ∷ Tok ∷ ‵ (Bytes .own r (bytesVal r ∷ [])) ∷ [])) (K (T′.lowered (record { bytes = r; stride = n })))
+  exits : (r : RefT (List ℕ)) (n : ℕ) → PartAt s r 0 (table? (now s) []) → n ≡ table? k 0 → ent 𝓤 (⋆ 𝓤 H A (‵ (usize .own n (vint w64 n ∷ [])) ∷ Tok ∷ ‵ (Bytes .own r (bytesVal r ∷ [])) ∷ [])) (K (T′.lowered (record { bytes = r; stride = n })))
   exits r n e f =
       qed W (‵ (usize .own n (vint w64 n ∷ [])) ∷ Tok ∷ ‵ (Bytes .own r (bytesVal r ∷ [])) ∷ []) ∵ nothing ! $ move ! (1 ∷ 0 ∷ []) $ fjoin ! $ move ! (2 ∷ 0 ∷ []) $ fjoin ! $
       use1 W (‵ (T.the-row (namedLft 1 0 tt κs) .own (record { bytes = r; stride = n }) (T′.lowered (record { bytes = r; stride = n }) ∷ []))) (own-shut 𝓤 H A W (T.the-type (namedLft 1 0 tt κs)) (T′.the-laws (namedLft 1 0 tt κs)) (r, (n, tt))) $
       by ! (leaves-with 𝓤 H A W me.ended (me.clauses 𝓤 H A (𝓜 .mem) (𝓡 .run)) ((κs, qs, tt, (s, (k, tt)), (bytesVal s ∷ [], (vint w64 k ∷ [], tt))), tt) (tt, (tt, tt)) (tt, (tt, tt)) (record { bytes = r; stride = n }) (T′.lowered (record { bytes = r; stride = n }))
-      ((now r ≡ table? (now s) []) × (n ≡ table? k 0)) (e, f) (id⊢ 𝓤 _))
+      (PartAt s r 0 (table? (now s) []) × (n ≡ table? k 0)) (e, f) (id⊢ 𝓤 _))
 
   walk : Is Bytes s (bytesVal s ∷ []) → Is usize k (vint w64 k ∷ []) → ent 𝓤 Pre (WpFn 𝓤 H (C 𝓤 H 𝓜 𝓖 𝓡 code.env) (Λ 𝓤 H 𝓜 𝓖 𝓡 code.env) code.function (bytesVal s ∷ vint w64 k ∷ []) K)
   walk is ik =
@@ -94,7 +95,7 @@ module _ {M : Type 1} (𝓤 : URA M) (H : Heap 𝓤) (𝓜 : Model 𝓤 H) (𝓖
       -- [the tokens; what the parameters own; the same; _4; …; _0; …]
       asks-at 𝓤 H 𝓜 𝓖 𝓡 code.env (first.signature .result) (first.signature .params) (first.ended .kept) (first.clauses 𝓤 H A (𝓜 .mem) (𝓡 .run)) #first first-def.routine code.calls-held·table·table-bytes (first-thm.met 𝓤 H 𝓜 𝓖 𝓡) κs qs (s, (k, tt)) (bytesVal s ∷ [], (vint w64 k ∷ [], tt)) tt (id⊢ 𝓤 _)
       bytesVal (shr-slice-tells (named 0) (κs .0) u8) (bytesVal s ∷ vint w64 k ∷ []) refl (and-then ! (load ! (from ! (stop !)) (look ! 8 refl)) (and-then ! (load ! (from ! (stop !)) (look ! 6 refl)) (no-more !))) (λ r ws ir.
-      move ! (2 ∷ []) $ use1 W (raw (fact 𝓤 (now r ≡ table? (now s) []))) (id⊢ 𝓤 _) $ heard ! (now r ≡ table? (now s) []) (λ e.
+      move ! (2 ∷ []) $ use1 W (raw (fact 𝓤 (PartAt s r 0 (table? (now s) [])))) (id⊢ 𝓤 _) $ heard ! (PartAt s r 0 (table? (now s) [])) (λ e.
       land ! (from ! (stop !)) (init ! 5 refl (tt, slice 𝓤 H 𝓜 𝓖 (named 0) (κs .0) r ir .typed .1)) $ move ! (1 ∷ 2 ∷ 0 ∷ []) $
       -- [the tokens; what the parameters own; what the first result owns; _4; …; _0; …]
       asks-at 𝓤 H 𝓜 𝓖 𝓡 code.env (second.signature .result) (second.signature .params) (second.ended .kept) (second.clauses 𝓤 H A (𝓜 .mem) (𝓡 .run)) #second second-def.routine code.calls-held·table·table-stride (second-thm.met 𝓤 H 𝓜 𝓖 𝓡) κs qs (s, (k, tt)) (bytesVal s ∷ [], (vint w64 k ∷ [], tt)) tt (id⊢ 𝓤 _)
