@@ -9,9 +9,9 @@
 --      mends to the writer's exact bytes; mending twice is mending once; no such damaged image comes from two plans or payloads.
 --
 -- The rule behind them: repair only what two header copies outvote or the parity says is one flipped bit, touch nothing else, and check the image afresh before it is loaded.
-use mathlib.Core.Path.{_≡_, ap, ap₂, _∙_}
+use mathlib.Core.Path.{_≡_, ap₂}
 use mathlib.Core.Bool.{Bool, true, false}
-use mathlib.Core.List.{List, []}
+use mathlib.Core.List.{List}
 use mathlib.Core.Logic.{_⊎_}
 use mathlib.Core.Option.{Option, none}
 use Prim.Native.Nat.{ℕ, _+_, _*_, _/_, _^_, _≤_, _<_}
@@ -21,7 +21,7 @@ use lib.ListN.{length, getD}
 use Rattle.bits.specs.Bit.{bit}
 use Rattle.bits.specs.Vote.{wrong, Majority}
 use Rattle.paper.specs.Bytes.{at, wordAt, Bytes}
-use Rattle.paper.specs.Refusals.{Verdict, fine, refuse, overlappingRegions}
+use Rattle.paper.specs.Refusals.{refuse, overlappingRegions}
 use Rattle.paper.specs.Layout.{maj3, voted, count, headerLength, header, directory, scrubWanted}
 use Rattle.paper.specs.Crc.{Crc32, crc32}
 use Rattle.paper.specs.Parse.{parse, headerOf, accepted, refused}
@@ -30,7 +30,7 @@ use Rattle.paper.specs.Scan.{Report, scan}
 use Rattle.paper.specs.Scrub.{scrub}
 use Rattle.paper.specs.Writer.{planes, image, write}
 use Rattle.paper.specs.Writer as plan
-use Rattle.paper.specs.Mend.{LaidApart, FirstMisplaced, Mended, apartVerdict, mendBytes, changed, wholeOf, mended, refusedMend, mend}
+use Rattle.paper.specs.Mend.{LaidApart, FirstMisplaced, Mended, mendBytes, changed, wholeOf, mended, refusedMend, mend}
 use Rattle.paper.specs.Programs.{storedLine, scrubImage, scrubLine}
 use Rattle.paper.proofs.FigureTable as figure
 use Rattle.paper.proofs.LayoutLaw as layout
@@ -55,7 +55,7 @@ use Rattle.demands.proofs.DamageLaw.{voted-right}
 use Rattle.demands.proofs.Refuses.{as-parse, only-overlap, overlap-always, else-mends}
 use Rattle.demands.proofs.Restores.{restored, one-source, whole-or-kept}
 use Rattle.demands.proofs.RunLaw as run
-use Rattle.demands.proofs.ScrubTouches.{only-met, nothing-said}
+use Rattle.demands.proofs.ScrubTouches.{only-met}
 use Rattle.demands.proofs.Settles.{settles-down, fresh, scrub-same}
 use Rattle.demands.proofs.Touches.{only-touched}
 use Rattle.demands.proofs.ReadsBack.{read-back}
@@ -209,7 +209,7 @@ pub fresh-check : (x y : List ℕ) (r : Option Report) (k : ℕ) (t : Bool) → 
     × (scrubWanted y ≡ false)
     × (header y ≡ header x)
     × (directory y ≡ directory x)
-    × (apartVerdict (count y) 0 [] (directory y) ≡ fine)
+    × LaidApart (count y) (directory y)
     × (scan y ≡ uncorrected r)
 fresh-check = fresh
 

@@ -1,12 +1,11 @@
 -- The demands of the functions themselves: `writer::write`, `repair::mend` and `lines::scrub`, through their promises (specs/Runs.antt). Assumes nothing.
-use mathlib.Core.Path.{_≡_, refl, sym, ap, _∙_}
-use mathlib.Core.Bool.{Bool, true, false}
-use mathlib.Core.List.{List, []}
-use Prim.Native.Nat.{ℕ, _+_, _*_, _/_, _≤_, _<_}
+use mathlib.Core.Path.{_≡_, sym, ap, _∙_}
+use mathlib.Core.Bool.{true, false}
+use mathlib.Core.List.{List}
+use Prim.Native.Nat.{ℕ, _/_, _≤_, _<_}
 use lib.Dec.{ltb}
 use lib.ListN.{length, take}
 use Rattle.paper.specs.Bytes.{at, wordAt, Bytes}
-use Rattle.paper.specs.Refusals.{fine}
 use Rattle.paper.specs.Layout.{count, headerLength, header, directory, scrubWanted}
 use Rattle.paper.specs.Parse.{headerOf, parse, accepted}
 use Rattle.paper.specs.Scan.{scan}
@@ -15,7 +14,7 @@ use Rattle.paper.specs.Writer.{planes}
 use Rattle.paper.specs.Programs.{storedLine}
 use Rattle.lines.specs.declared.Printed.{Printed}
 use lib.Seq.{sets}
-use Rattle.paper.specs.Mend.{LaidApart, FirstMisplaced, Mended, apartVerdict, changed, wholeOf, Mending, mended, mend}
+use Rattle.paper.specs.Mend.{LaidApart, FirstMisplaced, Mended, changed, wholeOf, Mending, mended, mend}
 use Rattle.error.specs.declared.Refusal.the-variants.{OverlappingRegions}
 use Rattle.repair.proofs.OneAnswer.{one-mend}
 use Rattle.scan.specs.Answers.{asScan}
@@ -24,7 +23,7 @@ use Rattle.scan.proofs.OneAnswer.{one-scan}
 use Rattle.writer.specs.Answers.{asPlan}
 use Rattle.writer.specs.declared.plan.Row.{Row}
 use Rattle.writer.specs.declared.room.WriteResult.the-variants.{Written}
-use Rattle.repair.specs.Answers.{asMended, leftBy}
+use Rattle.repair.specs.Answers.{asMended}
 use Rattle.repair.specs.declared.mending.Mending as answer
 use Rattle.repair.specs.declared.mending.MendResult.{MendResult}
 use Rattle.repair.specs.declared.mending.MendResult.the-variants as mend-says
@@ -117,7 +116,7 @@ module _ (x : List ℕ) (bytes : Bytes x) (m : answer.Mending) (y : List ℕ) (m
       × (scrubWanted y ≡ false)
       × (header y ≡ header x)
       × (directory y ≡ directory x)
-      × (apartVerdict (count y) 0 [] (directory y) ≡ fine)
+      × LaidApart (count y) (directory y)
       × (scan y ≡ uncorrected (asScan (m .report)))
   fresh-check = demands.fresh-check x y (asScan (m .report)) (m .stored) (m .whole) bytes (run.mended x m y mends)
 

@@ -1,8 +1,7 @@
 -- What a run says of the definitions. Assumes nothing.
 use mathlib.Core.Path.{_≡_, refl, sym, ap, ap₂, _∙_, subst}
-use mathlib.Core.List.{List, [], _∷_, _++_}
+use mathlib.Core.List.{List, [], _∷_}
 use mathlib.Core.Logic.{_⊎_}
-use mathlib.Core.Option.{none}
 use Prim.Native.Nat.{ℕ}
 use native.Mathlib.Omega.{arith}
 use denote.Ref.{now}
@@ -11,13 +10,11 @@ use base.Logic.{emp}
 use denote.Triple.Clauses.{AtExit}
 use borrow.Fn.Claims.{AllOf}
 use borrow.Fn.Read.{all-models, no-know, r-last}
-use borrow.Fn.World.{World, ArgsD, ResD}
+use borrow.Fn.World.{ArgsD, ResD}
 use Rattle.writer.proofs.write as write-fn
 use lib.ListN.{length, take, drop}
 use lib.Seq.{take-append-seam}
-use Rattle.laws.specs.Steps.{over}
 use Rattle.paper.specs.Parse.{parse, refused}
-use Rattle.paper.specs.Scan.{Report}
 use Rattle.paper.specs.Scrub as scrubs
 use Rattle.paper.specs.Mend as paper
 use Rattle.paper.specs.Writer as plan
@@ -27,10 +24,9 @@ use Rattle.scan.specs.Answers.{asScan}
 use Rattle.scan.specs.declared.Scan.{Scan}
 use Rattle.scan.specs.declared.Scan.the-variants as scan-says
 use Rattle.scan.proofs.OneAnswer.{one-scan}
-use Rattle.writer.specs.Answers.{asRow, asPlan, asWritten, answerOf, bytesAfter, wrote}
+use Rattle.writer.specs.Answers.{asRow, asPlan, answerOf, bytesAfter, wrote}
 use Rattle.writer.specs.Answers as plan-answer
 use Rattle.writer.specs.declared.plan.Row.{Row}
-use Rattle.writer.specs.declared.room.WriteResult.{WriteResult}
 use Rattle.writer.specs.declared.room.WriteResult.the-variants.{Written}
 use Rattle.writer.specs.declared.room.WriteResult.the-variants as write
 use Rattle.repair.proofs.mend.Reads as mend

@@ -24,7 +24,7 @@ use Rattle.laws.proofs.CodeLaw.{flipWord-low}
 use Rattle.laws.proofs.Fold.{putWord, word-length, word-out, word-is, word-bytes}
 use Rattle.laws.proofs.PairLaw.{among-from, among-left, among-right}
 use Rattle.paper.proofs.BytesLaw.{read-lt}
-use Rattle.demands.specs.ScrubSteps.{begun, entered, Before, first, next, Meets, Changes}
+use Rattle.demands.specs.ScrubSteps.{begun, entered, Before, first, next, Changes}
 use Rattle.demands.proofs.Touches.{column-of, flipped-byte}
 
 -- ---- one word that lies within the image

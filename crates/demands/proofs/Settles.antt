@@ -14,7 +14,7 @@ use Rattle.paper.specs.Parse.{parseVerdict, accepted, headerOf, parse}
 use Rattle.paper.specs.Parity.{decode}
 use Rattle.paper.specs.Scan.{visits, Among, examined, isCorrected, isLost, total, classesAt, Report, report, scan}
 use Rattle.paper.specs.Scrub.{scrub}
-use Rattle.paper.specs.Mend.{apartVerdict, mendVerdict, Mended, mendBytes, wholeOf, mended, mend}
+use Rattle.paper.specs.Mend.{LaidApart, apartVerdict, mendVerdict, Mended, mendBytes, wholeOf, mended, mend}
 use Rattle.paper.proofs.BytesLaw.{at-left, at-right, length-thrice}
 use Rattle.paper.proofs.LayoutLaw.{length-prologue, length-directoryBytes, differs-not}
 use Rattle.paper.proofs.ScanLaw.{length-classes, anyOf, scan-all}
@@ -25,6 +25,7 @@ use Rattle.laws.proofs.EntriesLaw.{accepted-image}
 use Rattle.laws.proofs.PairLaw.{Where, inWord, isCheck, neither, classify}
 use Rattle.laws.proofs.CodeLaw.{none-corrected, lost-again}
 use Rattle.laws.proofs.MendLaw.{one-result, same-in-word, settled, meets-rule}
+use Rattle.laws.proofs.MisplacedLaw.{accepts-apart}
 use Rattle.laws.proofs.StoredLaw.{changed-none}
 use Rattle.laws.proofs.ScrubLaw.{Scrubs, scrubs, scrub-is}
 use Rattle.laws.proofs.Fold.{check-out}
@@ -120,7 +121,7 @@ module _ (x y : List ℕ) (r : Option Report) (k : ℕ) (t : Bool) (b : Bytes x)
       × (scrubWanted y ≡ false)
       × (header y ≡ header x)
       × (directory y ≡ directory x)
-      × (apartVerdict (count y) 0 [] (directory y) ≡ fine)
+      × LaidApart (count y) (directory y)
       × (scan y ≡ uncorrected r)
   unfolding mendVerdict
   fresh =
@@ -130,7 +131,7 @@ module _ (x y : List ℕ) (r : Option Report) (k : ℕ) (t : Bool) (b : Bytes x)
         none-wanted y long (stays .copies),
         same-header y x same,
         same-directory y x same,
-        v .1,
+        accepts-apart (count y) (directory y) (v .1),
         scan-again ∙ ap uncorrected (m .report),
       )
 

@@ -1,8 +1,8 @@
 -- The states that scrub passes through, and the words that it meets in them. (FORMAT 8)
 use mathlib.Core.Path.{_≡_}
-use mathlib.Core.Bool.{Bool, true, false}
+use mathlib.Core.Bool.{true, false}
 use mathlib.Core.List.{List, [], _∷_, _++_}
-use mathlib.Core.Option.{Option, some}
+use mathlib.Core.Option.{some}
 use Prim.Native.Nat.{ℕ, suc, _+_, _*_, _/_, _<_}
 use lib.ListN.{length, getD}
 use Rattle.paper.specs.Bytes.{at, wordAt}

@@ -3,14 +3,14 @@ use mathlib.Core.Path.{_≡_, refl, sym, ap, _∙_, subst}
 use mathlib.Core.Bool.{Bool, true, false, _&&_, _||_}
 use mathlib.Core.List.{List, [], _∷_}
 use mathlib.Core.Option.{Option, none, some}
-use Prim.Native.Nat.{ℕ, zero, suc, _+_, _-_, _*_, _≤_, _<_}
+use Prim.Native.Nat.{ℕ, suc, _+_, _-_, _*_, _≤_, _<_}
 use native.Mathlib.Nat.{add-zero, zero-add, add-suc, suc-add, not-suc-le-zero}
 use native.Mathlib.Decide.{decLt, ℕ-discrete}
 use native.Mathlib.Omega.{arith}
 use borrow.Author.Tests.{ltb-true, lt-ltb}
 use lib.Dec.{ltb}
-use Rattle.paper.specs.Refusals.{Verdict, fine, refuse, _then_, refuseIf, overlappingRegions}
-use Rattle.paper.specs.Layout.{Entry, headerLength, start, end}
+use Rattle.paper.specs.Refusals.{fine, refuse, _then_, refuseIf, overlappingRegions}
+use Rattle.paper.specs.Layout.{Entry, headerLength, start}
 use Rattle.paper.specs.Views.{nth}
 use Rattle.paper.specs.Mend.{InRegion, LaidApart, Misplaced, onHeader, onEarlier, FirstMisplaced, meets, meetsAny, inHeader, apartVerdict}
 use Rattle.laws.proofs.VerdictLaw.{true-false, passed, or-left, or-right, or-true}
