@@ -9,7 +9,7 @@ use Rattle.kw.proofs.kw_mend.Reads as kw-mend
 use Rattle.kw.proofs.kw_write as kw-write
 
 -- `kw_write` is proved by hand, so that its clauses are read here, by computation, and not in a generated `Reads`.
-abbrev kw-write-reads : Reading kw-write.ended (λ M 𝓤. kw-write.clauses 𝓤)
+abbrev pub kw-write-reads : Reading kw-write.ended (λ M 𝓤. kw-write.clauses 𝓤)
 kw-write-reads = record { Learnt = _; reads = λ M 𝓤 H A mem run κs a g r s. refl }
 
 -- ---- no two answers of a function fit its promise

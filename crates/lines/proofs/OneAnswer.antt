@@ -3,7 +3,6 @@ use mathlib.Core.Path.{ap₂}
 use Prim.Native.Nat.{ℕ}
 use denote.Ref.{now}
 use Rattle.paper.proofs.OneAnswer.{OneAnswerAnd, OneAnswerAndBoth, agree}
-use Rattle.lines.specs.declared.Printed.{Printed}
 use Rattle.lines.proofs.report.Reads as report
 use Rattle.lines.proofs.scrub.Reads as scrub
 

@@ -3,8 +3,10 @@ use mathlib.Core.Path.{_≡_, refl, ap}
 use mathlib.Core.Bool.{Bool}
 use mathlib.Core.List.{List}
 use Prim.Native.Nat.{ℕ}
+use denote.Ref.{now}
 use Rattle.paper.specs.Refusals.{Verdict, refuse}
 use Rattle.paper.specs.Mend as paper
+use Rattle.paper.proofs.OneAnswer.{OneAnswerAnd, agree}
 use Rattle.error.specs.Refused.{asVerdict}
 use Rattle.error.proofs.OneAnswer.{one-refusal}
 use Rattle.scan.specs.declared.Scan.{Scan}
@@ -14,8 +16,6 @@ use Rattle.repair.specs.declared.mending.Mending.{Mending}
 use Rattle.repair.specs.declared.mending.MendResult.{MendResult}
 use Rattle.repair.specs.declared.mending.MendResult.the-variants.{Mended, Refused}
 use Rattle.repair.specs.Answers.{asMending, asMended}
-use denote.Ref.{now}
-use Rattle.paper.proofs.OneAnswer.{OneAnswerAnd, agree}
 use Rattle.repair.proofs.scrubbing.scrub.Reads as scrub
 use Rattle.repair.proofs.mending.mend.Reads as mend
 

@@ -2,12 +2,12 @@
 use mathlib.Core.Path.{_≡_, refl, ap}
 use mathlib.Core.Option.{Option, none, some}
 use Rattle.paper.specs.Scan.{Report}
+use Rattle.paper.proofs.OneAnswer.{OneAnswer, agree}
 use Rattle.ecc.specs.Answers.{asReport}
 use Rattle.ecc.proofs.OneAnswer.{one-report}
 use Rattle.scan.specs.declared.Scan.{Scan}
 use Rattle.scan.specs.declared.Scan.the-variants as is
 use Rattle.scan.specs.Answers.{asScan}
-use Rattle.paper.proofs.OneAnswer.{OneAnswer, agree}
 use Rattle.scan.proofs.verify_region.Reads as verify-region
 use Rattle.scan.proofs.verify_all.Reads as verify-all
 

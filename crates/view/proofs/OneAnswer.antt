@@ -3,14 +3,14 @@ use mathlib.Core.Path.{_≡_, refl, ap}
 use Rattle.paper.specs.Refusals.{Verdict, refuse}
 use Rattle.paper.specs.Parse.{Parsed, accepted, refused}
 use Rattle.paper.specs.Parse as paper
+use Rattle.paper.proofs.OneAnswer.{OneAnswer, agree}
 use Rattle.error.specs.Refused.{asVerdict}
 use Rattle.error.proofs.OneAnswer.{one-refusal}
+use Rattle.tables.proofs.OneAnswer.{one-place}
 use Rattle.view.specs.declared.header.Header.{Header}
 use Rattle.view.specs.declared.header.ParseResult.{ParseResult}
 use Rattle.view.specs.declared.header.ParseResult.the-variants as is
 use Rattle.view.specs.Answers.{asParsed}
-use Rattle.tables.proofs.OneAnswer.{one-place}
-use Rattle.paper.proofs.OneAnswer.{OneAnswer, agree}
 use Rattle.view.proofs.header.parse.Reads as parse
 use Rattle.view.proofs.header.Header.needs_scrub.Reads as needs-scrub
 use Rattle.view.proofs.regions.region_at.Reads as region-at

@@ -22,7 +22,7 @@ one-written (Refused r) (Refused s) e =
     ap Refused (one-refusal r s (ap₂ refuse m d))
 
 -- `write` is proved by hand, so that its clauses are read here, by computation, and not in a generated `Reads`.
-abbrev write-reads : Reading write.ended (λ M 𝓤. write.clauses 𝓤)
+abbrev pub write-reads : Reading write.ended (λ M 𝓤. write.clauses 𝓤)
 write-reads = record { Learnt = _; reads = λ M 𝓤 H A mem run κs a g r s. refl }
 
 -- ---- no two answers of a function fit its promise
