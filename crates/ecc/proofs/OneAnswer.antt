@@ -1,16 +1,16 @@
 -- No two answers fit one promise. (`asOutcome`, `asWord` and `asReport` tell every two apart: each is read back from what they make of it.) Assumes nothing.
 use mathlib.Core.Path.{_≡_, refl, sym, ap, _∙_}
 use mathlib.Core.Option.{Option, none, some}
+use denote.Ref.{now}
 use Rattle.paper.specs.Parity.{Outcome, cleanWord, correctedWord, uncorrectableWord}
 use Rattle.paper.specs.Scan.{Report}
+use Rattle.paper.proofs.OneAnswer.{OneAnswer, OneAnswerAnd, agree}
 use Rattle.ecc.specs.declared.WordStatus.{WordStatus}
 use Rattle.ecc.specs.declared.WordStatus.the-variants.{Clean, Corrected, Uncorrectable}
 use Rattle.ecc.specs.declared.PlaneWord.{PlaneWord}
 use Rattle.ecc.specs.declared.PlaneWord.the-variants.{Word, Nothing}
 use Rattle.ecc.specs.declared.EccReport.{EccReport}
 use Rattle.ecc.specs.Answers.{asOutcome, asWord, asReport}
-use denote.Ref.{now}
-use Rattle.paper.proofs.OneAnswer.{OneAnswer, OneAnswerAnd, agree}
 use Rattle.ecc.proofs.plane_kind_for.Reads as plane-kind-for
 use Rattle.ecc.proofs.check_byte.Reads as check-byte
 use Rattle.ecc.proofs.decode_word.Reads as decode-word

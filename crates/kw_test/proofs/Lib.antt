@@ -1,2 +1,3 @@
 pub mod Joined
 pub mod Told
+pub mod OneAnswer

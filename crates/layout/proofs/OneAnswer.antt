@@ -2,10 +2,10 @@
 use mathlib.Core.Path.{_≡_, refl}
 use mathlib.Core.Option.{Option, none, some}
 use Prim.Native.Nat.{ℕ}
+use Rattle.paper.proofs.OneAnswer.{OneAnswer, agree}
 use Rattle.layout.specs.declared.Size.{Size}
 use Rattle.layout.specs.declared.Size.the-variants.{Of, Nothing}
 use Rattle.layout.specs.Sizes.{asPaper}
-use Rattle.paper.proofs.OneAnswer.{OneAnswer, agree}
 use Rattle.layout.proofs.Region.byte_offset.Reads as byte-offset
 use Rattle.layout.proofs.Region.byte_length.Reads as byte-length
 use Rattle.layout.proofs.Region.is_encrypted.Reads as is-encrypted

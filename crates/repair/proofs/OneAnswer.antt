@@ -1,11 +1,12 @@
--- No two answers of `mend` fit one promise: `asMended` tells every two apart, whatever bytes are left. Assumes nothing.
--- (`scrub` answers a Scan: `one-scan` of crate scan.)
+-- No two answers fit one promise, nor two images that are left. (`asMended` tells every two answers of `mend` apart, whatever bytes are left; `scrub` answers a Scan: `one-scan` of crate scan.) Assumes nothing.
 use mathlib.Core.Path.{_≡_, refl, ap}
 use mathlib.Core.Bool.{Bool}
 use mathlib.Core.List.{List}
 use Prim.Native.Nat.{ℕ}
+use denote.Ref.{now}
 use Rattle.paper.specs.Refusals.{Verdict, refuse}
 use Rattle.paper.specs.Mend as paper
+use Rattle.paper.proofs.OneAnswer.{OneAnswerAnd, agree}
 use Rattle.error.specs.Refused.{asVerdict}
 use Rattle.error.proofs.OneAnswer.{one-refusal}
 use Rattle.scan.specs.declared.Scan.{Scan}
@@ -15,6 +16,8 @@ use Rattle.repair.specs.declared.mending.Mending.{Mending}
 use Rattle.repair.specs.declared.mending.MendResult.{MendResult}
 use Rattle.repair.specs.declared.mending.MendResult.the-variants.{Mended, Refused}
 use Rattle.repair.specs.Answers.{asMending, asMended}
+use Rattle.repair.proofs.scrubbing.scrub.Reads as scrub
+use Rattle.repair.proofs.mending.mend.Reads as mend
 
 pub one-mending : (a b : Mending) (x y : List ℕ) → asMending a x ≡ asMending b y → a ≡ b
 one-mending a b x y e =
@@ -29,3 +32,11 @@ one-mend (Mended m) (Mended n) x y e = ap Mended (one-mending m n x y e)
 one-mend (Mended m) (Refused r) x y e = cc
 one-mend (Refused r) (Mended n) x y e = cc
 one-mend (Refused r) (Refused q) x y e = let v : asVerdict r ≡ asVerdict q = cc in ap Refused (one-refusal r q v)
+
+-- ---- no two answers of a function fit its promise
+
+pub one-answer-scrub : OneAnswerAnd scrub.Learnt (λ κs s. now (s .0))
+one-answer-scrub κs a r r′ s s′ p q = (one-scan r r′ (agree (p .0) (q .0)), agree (p .1) (q .1))
+
+pub one-answer-mend : OneAnswerAnd mend.Learnt (λ κs s. now (s .0))
+one-answer-mend κs a r r′ s s′ p q = (one-mend r r′ (now (s .0)) (now (s′ .0)) (agree (p .0) (q .0)), agree (p .1) (q .1))

@@ -2,6 +2,7 @@
 use mathlib.Core.Path.{_≡_, refl}
 use mathlib.Core.Option.{Option, none, some}
 use Prim.Native.Nat.{ℕ}
+use Rattle.paper.proofs.OneAnswer.{OneAnswer, agree}
 use Rattle.scalar.specs.declared.U8At.{U8At}
 use Rattle.scalar.specs.declared.U8At.the-variants as u8
 use Rattle.scalar.specs.declared.U16At.{U16At}
@@ -11,7 +12,6 @@ use Rattle.scalar.specs.declared.U32At.the-variants as u32
 use Rattle.scalar.specs.declared.U64At.{U64At}
 use Rattle.scalar.specs.declared.U64At.the-variants as u64
 use Rattle.scalar.specs.Answers.{asPaper8, asPaper16, asPaper32, asPaper64}
-use Rattle.paper.proofs.OneAnswer.{OneAnswer, agree}
 use Rattle.scalar.proofs.u8_at.Reads as u8-at
 use Rattle.scalar.proofs.u16_at.Reads as u16-at
 use Rattle.scalar.proofs.u32_at.Reads as u32-at

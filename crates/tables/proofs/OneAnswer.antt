@@ -3,8 +3,10 @@ use mathlib.Core.Path.{_≡_, refl, ap, ap₂}
 use mathlib.Core.List.{List}
 use mathlib.Core.Option.{Option, none, some}
 use Prim.Native.Nat.{ℕ}
+use denote.Ref.{RefT, now}
 use Rattle.paper.specs.Refusals.{Verdict, refuse}
 use Rattle.paper.specs.Views.{Range, range, Span, span, noSpan}
+use Rattle.paper.proofs.OneAnswer.{One, OneAnswer, agree}
 use Rattle.error.specs.Refused.{asVerdict}
 use Rattle.error.proofs.OneAnswer.{one-refusal}
 use Rattle.tables.specs.declared.PartSpan.{PartSpan}
@@ -12,9 +14,7 @@ use Rattle.tables.specs.declared.PartSpan.the-variants.{Bytes, Refused}
 use Rattle.tables.specs.declared.Place.{Place}
 use Rattle.tables.specs.declared.Place.the-variants.{At, Nothing}
 use Rattle.tables.specs.Answers.{asSpan, asPlace}
-use denote.Ref.{RefT, now}
 use Rattle.tables.specs.Parts.{PartAt}
-use Rattle.paper.proofs.OneAnswer.{One, OneAnswer, agree}
 use Rattle.tables.proofs.region_span.Reads as region-span
 use Rattle.tables.proofs.region_bytes.Reads as region-bytes
 use Rattle.tables.proofs.records_span.Reads as records-span

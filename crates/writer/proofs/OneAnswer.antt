@@ -1,16 +1,16 @@
--- No two answers, and no two outputs, fit the writer's promise. Assumes nothing.
-use mathlib.Core.Path.{_≡_, sym, ap, ap₂, _∙_}
-use mathlib.Core.List.{List}
+-- No two answers fit one promise, nor two outputs that are left. (`asWritten` tells every two answers of `write` apart.) Assumes nothing.
+use mathlib.Core.Path.{_≡_, refl, ap, ap₂}
 use Prim.Native.Nat.{ℕ}
 use native.Mathlib.Omega.{arith}
-use lib.ListN.{length}
+use denote.Ref.{now}
 use Rattle.paper.specs.Refusals.{refuse}
-use Rattle.paper.specs.Writer as paper
+use Rattle.paper.proofs.OneAnswer.{OneAnswerAnd, Reading, agree}
 use Rattle.error.specs.Refused.{numberOf, detailOf}
 use Rattle.error.proofs.OneAnswer.{one-refusal}
 use Rattle.writer.specs.declared.room.WriteResult.{WriteResult}
 use Rattle.writer.specs.declared.room.WriteResult.the-variants.{Written, Refused}
-use Rattle.writer.specs.Answers.{asWritten, answerOf, bytesAfter}
+use Rattle.writer.specs.Answers.{asWritten}
+use Rattle.writer.proofs.write as write
 
 pub one-written : (a b : WriteResult) → asWritten a ≡ asWritten b → a ≡ b
 one-written (Written m) (Written n) e = ap Written (let z : m ≡ n = cc in z)
@@ -21,9 +21,11 @@ one-written (Refused r) (Refused s) e =
     let d : detailOf r ≡ detailOf s = cc in
     ap Refused (one-refusal r s (ap₂ refuse m d))
 
--- the promise, at rows, payload and output as the paper has them
-abbrev pub Promised : List paper.Row → List ℕ → List ℕ → WriteResult → List ℕ → Type 0
-Promised rs payload out r after = (asWritten r ≡ answerOf (paper.write rs payload (length out))) × (after ≡ bytesAfter (paper.write rs payload (length out)) out)
+-- `write` is proved by hand, so that its clauses are read here, by computation, and not in a generated `Reads`.
+abbrev pub write-reads : Reading write.ended (λ M 𝓤. write.clauses 𝓤)
+write-reads = record { Learnt = _; reads = λ M 𝓤 H A mem run κs a g r s. refl }
 
-pub one-answer : (rs : List paper.Row) (payload out : List ℕ) (a b : WriteResult) (x y : List ℕ) → Promised rs payload out a x → Promised rs payload out b y → (a ≡ b) × (x ≡ y)
-one-answer rs payload out a b x y p q = (one-written a b (p .0 ∙ sym (q .0)), p .1 ∙ sym (q .1))
+-- ---- no two answers of a function fit its promise
+
+pub one-answer-write : OneAnswerAnd (write-reads .Learnt) (λ κs s. now (s .1 .1 .0))
+one-answer-write κs a r r′ s s′ p q = (one-written r r′ (agree (p .0) (q .0)), agree (p .1) (q .1))
