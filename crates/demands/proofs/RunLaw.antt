@@ -6,12 +6,7 @@ use Prim.Native.Nat.{ℕ}
 use native.Mathlib.Omega.{arith}
 use denote.Ref.{now}
 use contract.Lifetimes.{Lfts}
-use base.Logic.{emp}
-use denote.Triple.Clauses.{AtExit}
-use borrow.Fn.Claims.{AllOf}
-use borrow.Fn.Read.{all-models, no-know, r-last}
-use borrow.Fn.World.{ArgsD, ResD}
-use Rattle.writer.proofs.write as write-fn
+use Rattle.writer.proofs.OneAnswer.{write-reads}
 use lib.ListN.{length, take, drop}
 use lib.Seq.{take-append-seam}
 use Rattle.paper.specs.Parse.{parse, refused}
@@ -50,15 +45,9 @@ scrub-promised κs a r ws p = record { answer = p .0; leaves = p .1 }
 pub command-promised : (κs : Lfts 2) (a : _) (r : _) (ws : _) → command.Learnt κs a r ws → Prints (now (a .0)) (now (a .1 .0)) r (now (ws .0)) (now (ws .1 .0))
 command-promised κs a r ws p = record { written = p .1 .1 .1 .0 .1; said = p .1 .0 }
 
--- `write` is proved by hand, so no module of readings is made of it: this is the toolchain's reading of its own clauses
-abbrev pub Learnt-write : (κs : Lfts 3) → ArgsD write-fn.signature κs → ResD write-fn.signature κs → AtExit write-fn.ended κs → Type 0
-Learnt-write κs a r e =
-    AllOf
-    (all-models {Base = λ w. emp (w .𝓤)} {Know = no-know} (λ w. write-fn.clauses (w .𝓤) (w .H) (w .𝓖 .A) (w .𝓜 .mem) (w .𝓡 .run) κs a .ensures tt r e) (λ w. r-last _)
-    (λ w. refl) (λ w. refl) (λ w. refl) .tells)
-
-pub write-promised : (κs : Lfts 3) (a : _) (r : _) (e : _) → Learnt-write κs a r e → Writes (now (a .0)) (now (a .1 .0)) (now (a .1 .1 .0)) r (now (e .1 .1 .0))
-write-promised κs a r e p = record { answer = p .0; leaves = p .1 }
+-- `write` is proved by hand, so that its clauses are read by `write-reads` and not in a generated module
+pub write-promised : (κs : Lfts 3) (a : _) (r : _) (s : _) → write-reads .Learnt κs a r s → Writes (now (a .0)) (now (a .1 .0)) (now (a .1 .1 .0)) r (now (s .1 .1 .0))
+write-promised κs a r s p = record { answer = p .0; leaves = p .1 }
 
 -- ---- the writer wrote n bytes
 
