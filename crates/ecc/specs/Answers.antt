@@ -23,6 +23,13 @@ asWord Nothing = none
 abbrev pub asReport : EccReport → Report
 asReport r = record { words = r .words; corrected = r .corrected; uncorrectable = r .uncorrectable }
 
+-- ---- steps of code, for private contracts
+
+-- a place among the 72, and for none 72
+abbrev pub placeIn : Option ℕ → ℕ
+placeIn none = 72
+placeIn (some i) = i
+
 -- the class of bit i of the 72, and of none, 72
 abbrev pub classOfBit : ℕ → Class
 classOfBit i = cond (ltb i 72) (flipped i) beyond

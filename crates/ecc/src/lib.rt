@@ -8,7 +8,7 @@ ghost use lib.Dec.{eqb, ltb};
 ghost use lib.ListN.{length};
 ghost use Rattle.paper.specs.Parity.{columns, find, checkOf, classOf, outcomeAs, outcome, planeKind};
 ghost use Rattle.paper.specs.Scan.{isCorrected, isLost, sliceWords, sliceWord, sliceScan};
-ghost use Rattle.ecc.specs.Answers.{asOutcome, asWord, asReport, classOfBit};
+ghost use Rattle.ecc.specs.Answers.{asOutcome, asWord, asReport, placeIn, classOfBit};
 ghost use Rattle.ecc.specs.Places.{outcomeBy, sliceScanBy};
 pub use places::check_by;
 pub use places::place_checks;
@@ -128,7 +128,7 @@ pub enum WordStatus {
 
 // The place of the syndrome among the columns, or 72. The loop always runs to its end, which is compiled to wide compares.
 fn column_of(syndrome: u8) -> usize
-    ensures { λ r. ⌜ (r ≡ find syndrome columns) × (r ≤ 72) ⌝ }
+    ensures { λ r. ⌜ (r ≡ placeIn (find syndrome columns)) × (r ≤ 72) ⌝ }
 {
     let table = COLUMNS;
     let mut left: u8 = 0;

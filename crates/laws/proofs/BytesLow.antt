@@ -1,6 +1,6 @@
 -- Lists of bytes put together and taken apart are lists of bytes, and a flipped bit of a number is in one of its bytes. Assumes nothing.
 use mathlib.Core.Path.{_≡_, refl, sym, ap, _∙_, subst}
-use mathlib.Core.List.{List, [], _∷_, _++_}
+use mathlib.Core.List.{List, [], _++_}
 use Prim.Native.Nat.{ℕ, zero, suc, _+_, _-_, _*_, _/_, _%_, _^_, _≤_, _<_}
 use native.Mathlib.Nat.{add-zero, add-suc, suc-add, le-of-suc-le-suc, not-suc-le-zero, mul-div-cancel, mul-mod-left}
 use native.Mathlib.Decide.{decLt}
@@ -8,7 +8,7 @@ use native.Mathlib.Omega.{arith}
 use lib.Dec.{lit<}
 use lib.Pow.{pow-add, pow-lt}
 use lib.Bits.{bitXor, xor-mod, xor-shr, xor-zero-r}
-use lib.ListN.{length, take, drop, List·getD-eq-default}
+use lib.ListN.{length, drop, List·getD-eq-default}
 use lib.Seq.{getD-drop}
 use Rattle.paper.specs.Bytes.{at, read, le, thrice, Bytes}
 use Rattle.paper.specs.Layout.{voted, prologue, directoryBytes, directoryBytesOf, count, header}
@@ -32,15 +32,6 @@ bytes-thrice x b = bytes-append x (x ++ x) b (bytes-append x x b b)
 
 pub bytes-le : (k v : ℕ) → Bytes (le k v)
 bytes-le k v = record { small = le-small k v }
-
-pub bytes-take : (n : ℕ) (x : List ℕ) → Bytes x → Bytes (take n x)
-bytes-take zero x b = bytes-nil
-bytes-take (suc n) [] b = b
-bytes-take (suc n) (a ∷ x) b = record { small = go (bytes-take n x (record { small = λ p. b .small (suc p) })) }
-  where
-    go : Bytes (take n x) → (p : ℕ) → at (a ∷ take n x) p < 256
-    go c zero = b .small 0
-    go c (suc p) = c .small p
 
 pub bytes-drop : (n : ℕ) (x : List ℕ) → Bytes x → Bytes (drop n x)
 bytes-drop n x b = record { small = λ p. subst (λ (m : ℕ). m < 256) (sym (getD-drop n x p 0)) (b .small (n + p)) }

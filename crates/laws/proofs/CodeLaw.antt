@@ -1,11 +1,11 @@
 -- What repair makes of a word and its check byte: it keeps their sizes, a corrected word is one flipped bit away, and repair done twice is repair done once. Assumes nothing.
 use mathlib.Core.Path.{_≡_, refl, sym, ap, ap₂, _∙_}
-use mathlib.Core.Bool.{Bool, true, false, _&&_, cond}
+use mathlib.Core.Bool.{Bool, true, false, cond}
 use mathlib.Core.List.{List, [], _∷_}
+use mathlib.Core.Option.{Option, none, some}
 use Prim.Native.Nat.{ℕ, suc, _-_, _/_, _^_, _<_, zero-le, suc-le-suc}
-use native.Mathlib.Nat.{le-of-suc-le-suc, not-suc-le-zero}
 use native.Mathlib.Omega.{arith}
-use borrow.Author.Tests.{eqb-true, ltb-true}
+use borrow.Author.Tests.{ltb-true}
 use lib.Dec.{eqb, ltb, ltb→lt, lit<}
 use lib.Pow.{pow-lt}
 use lib.Bits.{bitXor, xor-lt, xor-self}
@@ -14,9 +14,9 @@ use Rattle.bits.specs.Bit.{bit}
 use Rattle.bits.specs.Linear.{syn, pick}
 use Rattle.bits.proofs.LinearLaw.{xor-undo, xor-eq}
 use Rattle.bits.proofs.Table.{every, entry}
-use Rattle.paper.specs.Parity.{columns, find, isOdd, Class, clean, flipped, beyond, classOf, checkOf, syndrome, decode, flipWord, flipCheck, wordAfter, checkAfter, fixedWord, fixedCheck}
+use Rattle.paper.specs.Parity.{columns, find, isOdd, flippedAt, Class, clean, flipped, beyond, classOf, checkOf, syndrome, decode, flipWord, flipCheck, wordAfter, checkAfter, fixedWord, fixedCheck}
 use Rattle.paper.specs.Scan.{isCorrected, isLost}
-use Rattle.paper.proofs.ParityLaw.{syndrome-flip, flip-flip, decode-clean}
+use Rattle.paper.proofs.ParityLaw.{column-found, syndrome-flip, flip-flip, decode-clean}
 
 -- ---- sizes
 
@@ -60,20 +60,6 @@ wordAfter-low beyond w h = h
 
 -- ---- a corrected word, read backwards
 
-find-sound : (s : ℕ) (cs : List ℕ) → find s cs < length cs → getD cs (find s cs) 0 ≡ s
-unfolding find
-find-sound s [] h = absurd (not-suc-le-zero h)
-find-sound s (c ∷ cs) h = go (λ l. find-sound s cs l) (eqb c s) refl h
-  where
-    go : (find s cs < length cs → getD cs (find s cs) 0 ≡ s) → (t : Bool) → eqb c s ≡ t → cond t 0 (suc (find s cs)) < suc (length cs)
-        → getD (c ∷ cs) (cond t 0 (suc (find s cs))) 0 ≡ s
-    go f true e l = eqb-true c s e
-    go f false e l = f (le-of-suc-le-suc l)
-
-columns-72 : length columns ≡ 72
-unfolding columns
-columns-72 = refl
-
 -- the syndrome is that bit's column
 pub record Column (s i : ℕ) : Type 0 where
   pub inside : i < 72
@@ -81,16 +67,13 @@ pub record Column (s i : ℕ) : Type 0 where
 
 pub flipped-column : (s i : ℕ) → classOf s ≡ flipped i → Column s i
 unfolding classOf
-flipped-column s i h = go (eqb s 0) (isOdd s) (ltb (find s columns) 72) refl h
+flipped-column s i h = go (eqb s 0) (isOdd s) (find s columns) refl h
   where
-    go : (z o u : Bool) → ltb (find s columns) 72 ≡ u → cond z clean (cond (o && u) (flipped (find s columns)) beyond) ≡ flipped i → Column s i
-    go true o u e g = let z : _≡_ {A = ℕ} 0 1 = cc in absurd (omega arith)
-    go false false u e g = let z : _≡_ {A = ℕ} 0 1 = cc in absurd (omega arith)
-    go false true false e g = let z : _≡_ {A = ℕ} 0 1 = cc in absurd (omega arith)
-    go false true true e g =
-        let l : find s columns < 72 = ltb-true (find s columns) 72 e in
-        let f : find s columns ≡ i = cc in
-        record { inside = omega arith; is = ap (λ (k : ℕ). getD columns k 0) (sym f) ∙ find-sound s columns (omega (arith, columns-72)) }
+    go : (z o : Bool) (m : Option ℕ) → find s columns ≡ m → cond z clean (cond o (flippedAt m) beyond) ≡ flipped i → Column s i
+    go true o m e g = let z : _≡_ {A = ℕ} 0 1 = cc in absurd (omega arith)
+    go false false m e g = let z : _≡_ {A = ℕ} 0 1 = cc in absurd (omega arith)
+    go false true none e g = let z : _≡_ {A = ℕ} 0 1 = cc in absurd (omega arith)
+    go false true (some k) e g = let f : k ≡ i = cc in let r = column-found s i (e ∙ ap some f) in record { inside = r .0; is = r .1 }
 
 pub check-flip-flip : (i c : ℕ) → flipCheck i (flipCheck i c) ≡ c
 unfolding flipCheck

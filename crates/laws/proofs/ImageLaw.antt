@@ -2,7 +2,7 @@
 use mathlib.Core.Path.{_≡_, refl, sym, ap, ap₂, _∙_, subst}
 use mathlib.Core.Bool.{Bool, true, false, cond}
 use mathlib.Core.List.{List, [], _∷_, _++_, append-assoc}
-use Prim.Native.Nat.{ℕ, zero, suc, _+_, _*_, _≤_, _<_}
+use Prim.Native.Nat.{ℕ, zero, suc, _+_, _-_, _*_, _≤_, _<_}
 use native.Mathlib.Nat.{sub-le}
 use native.Mathlib.Omega.{arith}
 use lib.Dec.{ltb, lit<}
@@ -19,7 +19,7 @@ use Rattle.paper.proofs.BytesLaw.{read-le, at-left, at-right, length-thrice}
 use Rattle.paper.proofs.ParseLaw.{good-prologue, entries-say}
 use Rattle.paper.proofs.ScanLaw.{anyOf}
 use Rattle.laws.proofs.HeaderLaw.{voted-copies, copies-first, copies-second}
-use Rattle.laws.proofs.BytesLow.{bytes-nil, bytes-append, bytes-thrice, bytes-le, bytes-take}
+use Rattle.laws.proofs.BytesLow.{bytes-nil, bytes-append, bytes-thrice, bytes-le}
 use Rattle.laws.proofs.CodeLaw.{check-low}
 use Rattle.laws.proofs.EntriesLaw.{EntriesOK, entries-fine}
 use Rattle.laws.proofs.MendLaw.{InOrder}
@@ -193,8 +193,8 @@ bytes-planes (r ∷ rs) b =
   where
     go : (t : Bool) → Bytes (cond t (planeBytes r b) [])
     go true =
-        bytes-take (8 * planeWords r) (checks (r .words) b ++ replicate 8 0)
-        (bytes-append (checks (r .words) b) (replicate 8 0) (record { small = bytes-checks (r .words) b }) (record { small = bytes-zeros 8 }))
+        let z = 8 * planeWords r - r .words in
+        bytes-append (checks (r .words) b) (replicate z 0) (record { small = bytes-checks (r .words) b }) (record { small = bytes-zeros z })
     go false = bytes-nil
 
 bytes-entry : (e : Entry) → Bytes (entryBytes e)

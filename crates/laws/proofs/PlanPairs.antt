@@ -4,13 +4,13 @@ use mathlib.Core.Bool.{Bool, true, false, not, _&&_, cond}
 use mathlib.Core.List.{List, [], _∷_, _++_, append-nil}
 use mathlib.Core.Logic.{_⊎_, inl, inr}
 use mathlib.Core.Option.{Option, some}
-use Prim.Native.Nat.{ℕ, zero, suc, _+_, _*_, _/_, _<_, min}
+use Prim.Native.Nat.{ℕ, zero, suc, _+_, _-_, _*_, _/_, _<_, min}
 use native.Mathlib.Nat.{add-zero, zero-add, add-assoc, min-eq-left, le-of-suc-le-suc, not-suc-le-zero}
 use native.Mathlib.Omega.{arith}
 use borrow.Author.Tests.{eq-eqb, ne-eqb, eqb-false, lt-ltb}
 use lib.Dec.{eqb, ltb}
-use lib.ListN.{length, drop, replicate, length-append, length-take}
-use lib.Seq.{getD-take, getD-drop}
+use lib.ListN.{length, drop, replicate, length-append, length-replicate}
+use lib.Seq.{getD-drop}
 use Rattle.bits.specs.Bit.{bit}
 use Rattle.bits.proofs.BitLaw.{bit-high}
 use Rattle.paper.specs.Bytes.{at, read, wordAt}
@@ -178,7 +178,7 @@ unfolding checks
 length-checks zero b = refl
 length-checks (suc n) b = ap suc (length-checks n (drop 8 b))
 
-at-checks : (n : ℕ) (b : List ℕ) (k : ℕ) → k < n → at (checks n b) k ≡ checkOf (read 8 b (8 * k))
+pub at-checks : (n : ℕ) (b : List ℕ) (k : ℕ) → k < n → at (checks n b) k ≡ checkOf (read 8 b (8 * k))
 unfolding checks
 at-checks zero b k h = absurd (not-suc-le-zero h)
 at-checks (suc n) b zero h = refl
@@ -189,15 +189,13 @@ at-checks (suc n) b (suc k) h =
 at-plane : (r : Row) (b : List ℕ) (k : ℕ) → k < r .words → at (planeBytes r b) k ≡ checkOf (read 8 b (8 * k))
 unfolding planeBytes
 at-plane r b k h =
-    getD-take (8 * planeWords r) (checks (r .words) b ++ replicate 8 0) k 0 (omega arith)
-    ∙ at-left (checks (r .words) b) (replicate 8 0) (r .words) k (length-checks (r .words) b) h
-    ∙ at-checks (r .words) b k h
+    at-left (checks (r .words) b) (replicate (8 * planeWords r - r .words) 0) (r .words) k (length-checks (r .words) b) h ∙ at-checks (r .words) b k h
 
 pub length-plane : (r : Row) (b : List ℕ) → length (planeBytes r b) ≡ 8 * planeWords r
 unfolding planeBytes
 length-plane r b =
-    length-take (8 * planeWords r) (checks (r .words) b ++ replicate 8 0)
-    ∙ min-eq-left (omega (arith, length-append (checks (r .words) b) (replicate 8 0), length-checks (r .words) b))
+    let z = 8 * planeWords r - r .words in
+    omega (arith, length-append (checks (r .words) b) (replicate z 0), length-checks (r .words) b, length-replicate {A = ℕ} z 0)
 
 pub length-planes : (rs : List Row) (b : List ℕ) → length (planesBytes rs b) ≡ 8 * planesWords rs
 unfolding planesBytes planesWords

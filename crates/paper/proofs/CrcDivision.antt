@@ -10,10 +10,10 @@ use lib.Bits.{bitXor, xor-lt, xor-add-and, and-mask}
 use lib.Pow.{pow-pos, pow-lt}
 use lib.ListN.{length}
 use Rattle.bits.specs.Bit.{bit, num}
-use Rattle.bits.specs.Linear.{pick, syn}
+use Rattle.bits.specs.Linear.{pick}
 use Rattle.bits.proofs.BitLaw.{xor-assoc}
 use Rattle.bits.proofs.LinearLaw.{linear-ext, composed, at-num, xor-shl, xor-double, xor-right-comm, xor-ends}
-use Rattle.paper.specs.Crc.{G, allOnes, product, Remainder, sent, poly, dividend, downs, reflect, Crc32, stepR, serialR, crc32}
+use Rattle.paper.specs.Crc.{G, allOnes, product, Remainder, sent, poly, dividend, reflect, Crc32, stepR, serialR, crc32}
 use Rattle.paper.proofs.CrcRegister.{mulx, reflect-linear, step-mulx, step-lt, num-lt, serialR-lt}
 
 -- the plain register: a bit comes in at the top
@@ -22,7 +22,7 @@ serial r [] = r
 serial r (b ∷ bs) = serial (mulx (bitXor r (pick b (2 ^ 31)))) bs
 
 top : (t : Bool) → pick t (reflect 32 1) ≡ pick t (2 ^ 31)
-unfolding reflect downs syn bit
+unfolding reflect bit
 top true = refl
 top false = refl
 
@@ -88,9 +88,9 @@ divided (b ∷ bs) m k r v =
 -- ---- back from the plain register to the reflected one
 
 pub reflect-lt : (k n : ℕ) → reflect k n < 2 ^ k
-unfolding reflect downs syn
+unfolding reflect
 reflect-lt zero n = lit< tt
-reflect-lt (suc k) n = xor-lt (suc k) (pick (bit n 0) (2 ^ k)) (syn (downs k) (n / 2)) (high (bit n 0)) (more (syn (downs k) (n / 2)) (reflect-lt k (n / 2)))
+reflect-lt (suc k) n = xor-lt (suc k) (pick (bit n 0) (2 ^ k)) (reflect k (n / 2)) (high (bit n 0)) (more (reflect k (n / 2)) (reflect-lt k (n / 2)))
   where
     grows : 2 ^ k < 2 ^ suc k
     grows = pow-lt (le-refl (suc k))
@@ -106,13 +106,13 @@ complement : (a : ℕ) → a < 2 ^ 32 → allOnes - a ≡ bitXor a allOnes
 complement a h = omega (arith, xor-add-and a allOnes, and-mask a 32 ∙ mod-eq-of-lt h)
 
 pub reflect-twice : (s : ℕ) → s < 2 ^ 32 → reflect 32 (reflect 32 s) ≡ s
-unfolding reflect downs syn bit
+unfolding reflect bit
 reflect-twice =
     linear-ext (λ s. reflect 32 (reflect 32 s)) (λ s. s)
     (composed (reflect 32) (reflect 32) (reflect-linear 32) (reflect-linear 32)) (record { adds = λ a b. refl }) 32 refl
 
 reflect-ones : reflect 32 allOnes ≡ allOnes
-unfolding reflect downs syn bit
+unfolding reflect bit
 reflect-ones = refl
 
 reflect-complement : (s : ℕ) → s < 2 ^ 32 → allOnes - s ≡ reflect 32 (allOnes - reflect 32 s)

@@ -4,8 +4,7 @@ use mathlib.Core.Path.{_≡_, refl}
 use mathlib.Core.List.{List, [], _∷_}
 use Prim.Native.Nat.{ℕ, _+_, _-_, _^_}
 use Rattle.bits.specs.Bit.{bit}
-use Rattle.bits.specs.Linear.{syn}
-use Rattle.paper.specs.Crc.{G, sent, bitsLow, downs, reflect, POLY, stepR, serialR, crc32}
+use Rattle.paper.specs.Crc.{G, sent, bitsLow, reflect, POLY, stepR, serialR, crc32}
 
 -- the polynomial of some exponents, each named once
 abbrev pub powers : List ℕ → ℕ
@@ -17,7 +16,7 @@ pub generator : G ≡ powers (32 ∷ 26 ∷ 23 ∷ 22 ∷ 16 ∷ 12 ∷ 11 ∷ 1
 generator = refl
 
 pub poly-reflected : reflect 32 (G - 2 ^ 32) ≡ POLY
-unfolding reflect downs syn bit
+unfolding reflect bit
 poly-reflected = refl
 
 pub crc-empty : crc32 [] ≡ 0

@@ -13,10 +13,10 @@ use lib.Bits.{bitXor, xor-lt, xor-zero-r}
 use lib.ListN.{length, getD, drop}
 use lib.Seq.{drop-cons, drop-length}
 use Rattle.bits.specs.Bit.{bit, num, isOne}
-use Rattle.bits.specs.Linear.{pick, syn, Linear}
+use Rattle.bits.specs.Linear.{pick, Linear}
 use Rattle.bits.proofs.BitLaw.{bit-xor, xor-half, xor-assoc}
-use Rattle.bits.proofs.LinearLaw.{pick-xor, xor-swap, syn-linear, linear-ext, composed, by-low, xor-double}
-use Rattle.paper.specs.Crc.{G, bitsLow, sent, downs, reflect, POLY, stepR, serialR}
+use Rattle.bits.proofs.LinearLaw.{pick-xor, xor-swap, linear-ext, composed, by-low, xor-double}
+use Rattle.paper.specs.Crc.{G, bitsLow, sent, reflect, POLY, stepR, serialR}
 
 -- ---- one step of the reflected register, and of the plain one
 
@@ -44,11 +44,18 @@ mulx-linear =
 
 pub reflect-linear : (k : ℕ) → Linear (reflect k)
 unfolding reflect
-reflect-linear k = syn-linear (downs k)
+reflect-linear zero = record { adds = λ a b. refl }
+reflect-linear (suc k) =
+    record {
+      adds = λ a b.
+          ap₂ bitXor (ap (λ (t : Bool). pick t (2 ^ k)) (bit-xor a b 0) ∙ pick-xor (bit a 0) (bit b 0) (2 ^ k))
+          (ap (reflect k) (xor-half a b) ∙ reflect-linear k .adds (a / 2) (b / 2))
+          ∙ xor-swap (pick (bit a 0) (2 ^ k)) (pick (bit b 0) (2 ^ k)) (reflect k (a / 2)) (reflect k (b / 2));
+    }
 
 -- by the values at the 32 powers of two, which are computed
 pub step-mulx : (s : ℕ) → s < 2 ^ 32 → reflect 32 (stepR s) ≡ mulx (reflect 32 s)
-unfolding reflect downs stepR mulx syn bit
+unfolding reflect stepR mulx bit
 step-mulx =
     linear-ext (λ s. reflect 32 (stepR s)) (λ s. mulx (reflect 32 s))
     (composed (reflect 32) stepR (reflect-linear 32) stepR-linear)

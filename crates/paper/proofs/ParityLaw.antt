@@ -1,27 +1,28 @@
 -- The (72,64) code: its columns follow Hsiao's rule, one flipped bit is corrected and two are noticed. Assumes nothing.
 use mathlib.Core.Path.{_≡_, refl, sym, ap, ap₂, _∙_}
-use mathlib.Core.Bool.{Bool, true, false, _&&_, cond}
+use mathlib.Core.Bool.{Bool, true, false, cond}
 use mathlib.Core.List.{List, [], _∷_}
-use Prim.Native.Nat.{ℕ, zero, suc, _+_, _-_, _*_, _/_, _%_, _^_, _≤_, _<_, zero-le, suc-le-suc}
+use mathlib.Core.Option.{Option, none, some, Option·map}
+use Prim.Native.Nat.{ℕ, zero, suc, _+_, _-_, _^_, _<_, zero-le, suc-le-suc}
 use native.Mathlib.Omega.{arith}
-use borrow.Author.Tests.{lt-ltb, ne-eqb, ltb-true, ltb-false}
+use borrow.Author.Tests.{ne-eqb, eqb-true, ltb-true, ltb-false}
 use lib.Dec.{T, eqb, ltb, eqb→eq}
-use lib.Bits.{bitXor, xor-self, xor-comm, xor-lt}
+use lib.Bits.{bitXor, xor-self}
 use lib.Count.{ones}
 use lib.ListN.{length, getD, take}
 use lib.Seq.{getD-take}
-use lib.Pow.{pow-lt, pow-pos}
 use Rattle.bits.specs.Bit.{bit}
-use Rattle.bits.specs.Linear.{pick, syn}
+use Rattle.bits.specs.Linear.{syn}
 use Rattle.bits.proofs.BitLaw.{xor-assoc}
 use Rattle.bits.proofs.LinearLaw.{syn-flip, syn-xor, xor-undo, xor-eq, xor-right-comm}
 use Rattle.bits.proofs.Table.{every, entry}
-use Rattle.paper.specs.Parity.{columns, hsiao, heavy, units, find, isOdd, Class, clean, flipped, beyond, classOf, checkOf, syndrome, flipWord, flipCheck, decode, Outcome, cleanWord, correctedWord, uncorrectableWord, outcome, fixedWord, fixedCheck}
+use Rattle.paper.specs.Bytes.{tab}
+use Rattle.paper.specs.Parity.{columns, hsiao, ofWeight, keepIf, find, isOdd, Class, clean, flipped, beyond, classOf, checkOf, syndrome, flipWord, flipCheck, decode, correctedWord, outcome}
 
 -- ---- the columns: Hsiao's rule, all odd, all different
 
 pub columns-rule : columns ≡ hsiao
-unfolding columns hsiao heavy ones units
+unfolding columns hsiao ofWeight keepIf tab ones
 columns-rule = refl
 
 oddly : ℕ → ℕ → Bool
@@ -35,15 +36,24 @@ pub column-odd : (i : ℕ) → i < 72 → isOdd (getD columns i 0) ≡ true
 unfolding columns oddly isOdd ones every
 column-odd i h = T-true (isOdd (getD columns i 0)) (entry oddly columns tt i h)
 
-itself : ℕ → ℕ → Bool
-itself i c = eqb (find c columns) i
+isAt : ℕ → Option ℕ → Bool
+isAt i none = false
+isAt i (some k) = eqb k i
 
-pub find-column : (i : ℕ) → i < 72 → find (getD columns i 0) columns ≡ i
-unfolding columns itself find every
-find-column i h = eqb→eq (find (getD columns i 0) columns) i (entry itself columns tt i h)
+is-at : (i : ℕ) (o : Option ℕ) → T (isAt i o) → o ≡ some i
+unfolding isAt
+is-at i none h = absurd h
+is-at i (some k) h = ap some (eqb→eq k i h)
+
+itself : ℕ → ℕ → Bool
+itself i c = isAt i (find c columns)
+
+pub find-column : (i : ℕ) → i < 72 → find (getD columns i 0) columns ≡ some i
+unfolding columns itself isAt find every
+find-column i h = is-at i (find (getD columns i 0) columns) (entry itself columns tt i h)
 
 pub columns-differ : (i j : ℕ) → i < 72 → j < 72 → getD columns i 0 ≡ getD columns j 0 → i ≡ j
-columns-differ i j hi hj e = sym (find-column i hi) ∙ ap (λ (s : ℕ). find s columns) e ∙ find-column j hj
+columns-differ i j hi hj e = let z : some i ≡ some j = sym (find-column i hi) ∙ ap (λ (s : ℕ). find s columns) e ∙ find-column j hj in cc
 
 unitary : ℕ → ℕ → Bool
 unitary j u = eqb (getD columns (64 + j) 0) (2 ^ j)
@@ -57,7 +67,10 @@ unit-column j h = eqb→eq (getD columns (64 + j) 0) (2 ^ j) (entry unitary eigh
 
 pub column-nonzero : (i : ℕ) → i < 72 → getD columns i 0 ≡ 0 → ⊥
 unfolding find columns
-column-nonzero i h e = omega (arith, ap (λ (x : ℕ). find x columns) (sym e) ∙ find-column i h)
+column-nonzero i h e =
+    let n : none ≡ some i = ap (λ (x : ℕ). find x columns) (sym e) ∙ find-column i h in
+    let z : _≡_ {A = ℕ} 0 1 = cc in
+    omega arith
 
 -- ---- the check byte is linear
 
@@ -102,20 +115,35 @@ class-zero = refl
 pub class-column : (i : ℕ) → i < 72 → classOf (getD columns i 0) ≡ flipped i
 unfolding classOf
 class-column i h =
-    rw (ne-eqb (getD columns i 0) 0 (column-nonzero i h), column-odd i h, find-column i h, lt-ltb i 72 h)
+    rw (ne-eqb (getD columns i 0) 0 (column-nonzero i h), column-odd i h, find-column i h)
 
-find-none : (s : ℕ) (cs : List ℕ) → ((k : ℕ) → k < length cs → getD cs k 0 ≡ s → ⊥) → find s cs ≡ length cs
+pub find-none : (s : ℕ) (cs : List ℕ) → ((k : ℕ) → k < length cs → getD cs k 0 ≡ s → ⊥) → find s cs ≡ none
 unfolding find
 find-none s [] f = refl
 find-none s (c ∷ cs) f =
-    rw (ne-eqb c s (f 0 (suc-le-suc zero-le))) (ap suc (find-none s cs (λ k h. f (suc k) (suc-le-suc h))))
+    rw (ne-eqb c s (f 0 (suc-le-suc zero-le))) (ap (Option·map suc) (find-none s cs (λ k h. f (suc k) (suc-le-suc h))))
+
+find-sound : (s : ℕ) (cs : List ℕ) (i : ℕ) → find s cs ≡ some i → (i < length cs) × (getD cs i 0 ≡ s)
+unfolding find
+find-sound s [] i h = let z : _≡_ {A = ℕ} 0 1 = cc in absurd (omega arith)
+find-sound s (c ∷ cs) i h = go (eqb c s) refl (find s cs) (λ k g. find-sound s cs k g) h
+  where
+    go : (t : Bool) → eqb c s ≡ t → (o : Option ℕ) → ((k : ℕ) → o ≡ some k → (k < length cs) × (getD cs k 0 ≡ s))
+        → cond t (some 0) (Option·map suc o) ≡ some i → (i < suc (length cs)) × (getD (c ∷ cs) i 0 ≡ s)
+    go true e o f g = let z : 0 ≡ i = cc in (omega arith, ap (λ (k : ℕ). getD (c ∷ cs) k 0) (sym z) ∙ eqb-true c s e)
+    go false e none f g = let z : _≡_ {A = ℕ} 0 1 = cc in absurd (omega arith)
+    go false e (some k) f g = let z : suc k ≡ i = cc in let r = f k refl in (omega (arith, r .0), ap (λ (k : ℕ). getD (c ∷ cs) k 0) (sym z) ∙ r .1)
+
+pub column-found : (s i : ℕ) → find s columns ≡ some i → (i < 72) × (getD columns i 0 ≡ s)
+unfolding columns
+column-found s i h = find-sound s columns i h
 
 -- neither 0 nor a column
 pub class-none : (s : ℕ) → (s ≡ 0 → ⊥) → ((k : ℕ) → k < 72 → getD columns k 0 ≡ s → ⊥) → classOf s ≡ beyond
 unfolding classOf columns
 class-none s z f = rw (ne-eqb s 0 z, find-none s columns f) (go (isOdd s))
   where
-    go : (t : Bool) → cond (t && false) (flipped 72) beyond ≡ beyond
+    go : (t : Bool) → cond t beyond beyond ≡ beyond
     go true = refl
     go false = refl
 

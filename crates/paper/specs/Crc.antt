@@ -1,13 +1,13 @@
 -- The checksum: CRC-32 of IEEE 802.3, as the remainder of a polynomial over GF(2). (FORMAT 4)
 -- A polynomial is a number: bit i is the coefficient of x^i. The sum is `bitXor`, and `* 2` is the product with x.
 use mathlib.Core.Path.{_≡_}
-use mathlib.Core.Bool.{Bool, true, false}
+use mathlib.Core.Bool.{Bool}
 use mathlib.Core.List.{List, [], _∷_, _++_}
-use Prim.Native.Nat.{ℕ, zero, suc, _+_, _-_, _*_, _/_, _^_, _<_}
+use Prim.Native.Nat.{ℕ, zero, suc, _-_, _*_, _/_, _^_, _<_}
 use lib.Bits.{bitXor}
 use lib.ListN.{length}
 use Rattle.bits.specs.Bit.{bit, num}
-use Rattle.bits.specs.Linear.{pick, syn}
+use Rattle.bits.specs.Linear.{pick}
 
 -- x^32 + x^26 + x^23 + x^22 + x^16 + x^12 + x^11 + x^10 + x^8 + x^7 + x^5 + x^4 + x^2 + x + 1
 abbrev pub G : ℕ
@@ -47,14 +47,10 @@ poly m (b ∷ bs) = poly (bitXor (m * 2) (num b)) bs
 unfoldable pub dividend : List Bool → ℕ
 dividend bs = bitXor (poly 0 bs * 2 ^ 32) (allOnes * 2 ^ length bs)
 
--- 2^(k-1), .., 2, 1
-unfoldable pub downs : ℕ → List ℕ
-downs zero = []
-downs (suc k) = 2 ^ k ∷ downs k
-
--- the k low bits of n in reverse: bit i goes to k - 1 - i
+-- the k low bits of n in reverse: bit 0 becomes bit k - 1, and the bits above it are the k - 1 low ones in reverse
 unfoldable pub reflect : ℕ → ℕ → ℕ
-reflect k n = syn (downs k) n
+reflect zero n = 0
+reflect (suc k) n = bitXor (pick (bit n 0) (2 ^ k)) (reflect k (n / 2))
 
 -- c is the CRC of a message: the remainder, complemented, and read with the coefficient of x^31 as the lowest bit
 pub record Crc32 (message : List ℕ) (c : ℕ) : Type 0 where

@@ -1,28 +1,29 @@
 -- The (72,64) code: columns, check byte, the class of a syndrome, what a word is decoded to. (FORMAT 7)
-use mathlib.Core.Bool.{Bool, true, false, _&&_, cond}
+use mathlib.Core.Bool.{Bool, cond}
 use mathlib.Core.List.{List, [], _∷_, _++_}
-use Prim.Native.Nat.{ℕ, zero, suc, _+_, _-_, _/_, _%_, _^_}
+use mathlib.Core.Option.{Option, none, some, Option·map}
+use Prim.Native.Nat.{ℕ, suc, _-_, _%_, _^_}
 use lib.Dec.{eqb, ltb}
 use lib.Count.{ones}
 use lib.Bits.{bitXor, bitOr}
-use lib.ListN.{length, getD, take}
+use lib.ListN.{take}
 use Rattle.bits.specs.Linear.{syn}
+use Rattle.paper.specs.Bytes.{tab}
 
 -- ---- Hsiao's rule: columns of odd weight, all different, the lightest first
 
--- of the k numbers from i on, those with t ones, ascending
-unfoldable pub heavy : ℕ → ℕ → ℕ → List ℕ
-heavy t zero i = []
-heavy t (suc k) i = let r = heavy t k (suc i) in cond (eqb (ones i) t) (i ∷ r) r
+-- those of a list that pass a test
+unfoldable pub keepIf : (ℕ → Bool) → List ℕ → List ℕ
+keepIf t [] = []
+keepIf t (n ∷ ns) = cond (t n) (n ∷ keepIf t ns) (keepIf t ns)
 
--- the bytes with only bit j, j + 1, ..
-unfoldable pub units : ℕ → ℕ → List ℕ
-units zero j = []
-units (suc k) j = 2 ^ j ∷ units k (suc j)
+-- the bytes with t ones, ascending
+unfoldable pub ofWeight : ℕ → List ℕ
+ofWeight t = keepIf (λ b. eqb (ones b) t) (tab 256 (λ b. b))
 
--- data bits 0 to 55: the bytes with three ones; 56 to 63: the first eight with five; check bits: those with one
+-- data bits 0 to 55: the bytes with three ones; 56 to 63: the first eight with five; check bit j: the byte with only bit j
 unfoldable pub hsiao : List ℕ
-hsiao = heavy 3 256 0 ++ (take 8 (heavy 5 256 0) ++ units 8 0)
+hsiao = ofWeight 3 ++ (take 8 (ofWeight 5) ++ tab 8 (λ j. 2 ^ j))
 
 -- the same as a table (`columns-rule` in proofs/)
 unfoldable pub columns : List ℕ
@@ -45,18 +46,22 @@ pub data Class : Type 0 where
   flipped : ℕ → Class
   beyond : Class
 
--- the place of s, or the list's length where it is not there
-unfoldable pub find : ℕ → List ℕ → ℕ
-find s [] = 0
-find s (c ∷ cs) = cond (eqb c s) 0 (suc (find s cs))
+-- the place of s, if it is there
+unfoldable pub find : ℕ → List ℕ → Option ℕ
+find s [] = none
+find s (c ∷ cs) = cond (eqb c s) (some 0) (Option·map suc (find s cs))
 
 -- an odd number of ones
 unfoldable pub isOdd : ℕ → Bool
 isOdd s = eqb (ones s % 2) 1
 
+-- by the place among the columns
+abbrev pub flippedAt : Option ℕ → Class
+flippedAt none = beyond
+flippedAt (some i) = flipped i
+
 unfoldable pub classOf : ℕ → Class
-classOf s =
-    cond (eqb s 0) clean (cond (isOdd s && ltb (find s columns) 72) (flipped (find s columns)) beyond)
+classOf s = cond (eqb s 0) clean (cond (isOdd s) (flippedAt (find s columns)) beyond)
 
 -- ---- bit i of the 72 of a word and its check byte flipped: what becomes of the word, and of the byte
 

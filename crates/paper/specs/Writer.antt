@@ -1,9 +1,9 @@
 -- The writer. (FORMAT 9)
-use mathlib.Core.Bool.{Bool, true, false, not, _||_, cond}
+use mathlib.Core.Bool.{Bool, false, not, _||_, cond}
 use mathlib.Core.List.{List, [], _∷_, _++_}
-use Prim.Native.Nat.{ℕ, zero, suc, _+_, _*_, _/_}
+use Prim.Native.Nat.{ℕ, zero, suc, _+_, _-_, _*_, _/_}
 use lib.Dec.{eqb, ltb}
-use lib.ListN.{length, take, drop, replicate}
+use lib.ListN.{length, drop, replicate}
 use Rattle.paper.specs.Bytes.{read, le, thrice}
 use Rattle.paper.specs.Refusals.{badPlan, duplicateRegion, tooManyRegions, tooLarge, noRoom, Verdict, fine, refuse, _then_, refuseIf}
 use Rattle.paper.specs.Crc.{crc32}
@@ -81,7 +81,7 @@ checks (suc n) b = checkOf (read 8 b 0) ∷ checks n (drop 8 b)
 
 -- a plane: the check bytes, and zeros up to a whole word
 unfoldable pub planeBytes : Row → List ℕ → List ℕ
-planeBytes r b = take (8 * planeWords r) (checks (r .words) b ++ replicate 8 0)
+planeBytes r b = checks (r .words) b ++ replicate (8 * planeWords r - r .words) 0
 
 unfoldable pub planesBytes : List Row → List ℕ → List ℕ
 planesBytes [] b = []

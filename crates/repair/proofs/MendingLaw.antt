@@ -30,7 +30,7 @@ use Rattle.laws.proofs.StoredLaw.{stored-count}
 use Rattle.repair.proofs.SettleLaw.{header-part}
 use Rattle.repair.proofs.MetLaw.{met-append, met-apart, tally-append}
 use Rattle.repair.specs.declared.counts.Counts.{Counts}
-use Rattle.repair.specs.Answers.{reportedBy, visitedBy, plus, tally, met, scanned}
+use Rattle.repair.specs.Counting.{reportedBy, visitedBy, plus, tally, met, scanned}
 use Rattle.repair.specs.Runs.{visitsAt}
 
 -- ---- a run of words

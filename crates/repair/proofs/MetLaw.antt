@@ -13,7 +13,7 @@ use Rattle.paper.proofs.ScanLaw.{total-append}
 use Rattle.laws.proofs.PairLaw.{classes-ext}
 use Rattle.laws.proofs.Fold.{Inside, AllApart, nil, cons, fix-bytes, fix-length, fix-free}
 use Rattle.repair.specs.declared.counts.Counts.{Counts}
-use Rattle.repair.specs.Answers.{counted, plus, tally, met}
+use Rattle.repair.specs.Counting.{counted, plus, tally, met}
 
 same-counts : {a b c a′ b′ c′ : ℕ} (v : Bool) → a ≡ a′ → b ≡ b′ → c ≡ c′
     → _≡_ {A = Counts} (record { any = v; words = a; corrected = b; uncorrectable = c }) (record { any = v; words = a′; corrected = b′; uncorrectable = c′ })

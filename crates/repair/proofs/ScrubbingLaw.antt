@@ -19,7 +19,7 @@ use Rattle.paper.specs.Scrub.{State, storedWord, scrubWord, scrubWords, scrubVi
 use Rattle.paper.proofs.ParseLaw.{accepted-long}
 use Rattle.paper.proofs.ScanLaw.{anyOf, mark, visits-words}
 use Rattle.repair.specs.declared.counts.Counts.{Counts}
-use Rattle.repair.specs.Answers.{Stands, scrubIn, Room, counted, reportedBy}
+use Rattle.repair.specs.Counting.{Stands, scrubIn, Room, counted, reportedBy}
 use Rattle.repair.specs.Runs.{visitsAt}
 use Rattle.repair.proofs.MetLaw.{counted-tally}
 

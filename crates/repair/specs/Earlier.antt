@@ -1,4 +1,4 @@
--- The entries before an entry, the nearest first, as the rule that regions are laid apart walks them. (FORMAT 10)
+-- Steps of code, for private contracts; nothing that a reader must believe. The entries before an entry, the nearest first, as the rule that regions are laid apart walks them. (FORMAT 10)
 use mathlib.Core.Path.{_≡_}
 use mathlib.Core.Bool.{Bool, false, _&&_, _||_, cond}
 use mathlib.Core.List.{List, [], _∷_}

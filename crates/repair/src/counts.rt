@@ -4,7 +4,7 @@ ghost use mathlib.Core.Bool.{_||_};
 ghost use Prim.Native.Nat.{ℕ, _+_};
 ghost use Rattle.scan.specs.Answers.{asScan};
 ghost use Rattle.ecc.specs.Answers.{asOutcome};
-ghost use Rattle.repair.specs.Answers.{Room, counted, reportedBy};
+ghost use Rattle.repair.specs.Counting.{Room, counted, reportedBy};
 use ecc::EccReport;
 use ecc::WordStatus;
 use scan::Scan;

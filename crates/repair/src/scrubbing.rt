@@ -6,7 +6,7 @@ ghost use Rattle.paper.specs.Scan.{pairsFrom};
 ghost use Rattle.scan.specs.Answers.{asScan};
 ghost use Rattle.paper.specs.Scrub as paper;
 ghost use Rattle.ecc.specs.Places.{placeChecks};
-ghost use Rattle.repair.specs.Answers.{Stands, scrubIn, Room};
+ghost use Rattle.repair.specs.Counting.{Stands, scrubIn, Room};
 use super::counts::Counts;
 use super::counts::count_word;
 use super::counts::report;

@@ -13,12 +13,14 @@ abbrev pub asScan : Scan → Option Report
 asScan (is.Report r) = some (asReport r)
 asScan is.Nothing = none
 
--- a region's span scanned against the plane from start to end
-abbrev pub scanAgainst : List ℕ → Span → ℕ → ℕ → Option Report
-scanAgainst x (span r) start end = some (sliceScan (part x (r .first) (r .past)) (part x start end))
-scanAgainst x (noSpan n d) start end = none
-
 -- a report comes of a region whose length has 32 bits
 abbrev pub Few : ℕ → Scan → Type 0
 Few w (is.Report r) = w < 2 ^ 32
 Few w is.Nothing = Unit {0}
+
+-- ---- steps of code, for private contracts
+
+-- a region's span scanned against the plane from start to end
+abbrev pub scanAgainst : List ℕ → Span → ℕ → ℕ → Option Report
+scanAgainst x (span r) start end = some (sliceScan (part x (r .first) (r .past)) (part x start end))
+scanAgainst x (noSpan n d) start end = none

@@ -17,6 +17,23 @@ use Rattle.view.specs.declared.header.Check.the-variants as check
 use Rattle.view.specs.declared.header.Counted.{Counted}
 use Rattle.view.specs.declared.header.Counted.the-variants as counted
 
+abbrev pub asParsed : ParseResult → Parsed
+asParsed (parse.Parsed h) =
+    accepted
+    (record {
+      regions = h .«region_count»;
+      prologueDisagreed = h .«prologue_disagreed»;
+      directoryDisagreed = h .«directory_disagreed»;
+    })
+asParsed (parse.Refused r) = refused (numberOf r) (detailOf r)
+
+-- an entry, as the region that is handed out
+abbrev pub foundAs : Option Entry → RegionAt
+foundAs none = found.Nothing
+foundAs (some e) = found.Found (regionOf e)
+
+-- ---- steps of code, for private contracts
+
 abbrev pub asCheck : Check → Verdict
 asCheck check.Fine = fine
 asCheck (check.Refuse r) = asVerdict r
@@ -33,18 +50,3 @@ withCount (refuse k d) n = refusedWith k d
 abbrev pub asCounted : Counted → Answer
 asCounted (counted.Count n) = fineWith n
 asCounted (counted.Refuse r) = refusedWith (numberOf r) (detailOf r)
-
-abbrev pub asParsed : ParseResult → Parsed
-asParsed (parse.Parsed h) =
-    accepted
-    (record {
-      regions = h .«region_count»;
-      prologueDisagreed = h .«prologue_disagreed»;
-      directoryDisagreed = h .«directory_disagreed»;
-    })
-asParsed (parse.Refused r) = refused (numberOf r) (detailOf r)
-
--- an entry, as the region that is handed out
-abbrev pub foundAs : Option Entry → RegionAt
-foundAs none = found.Nothing
-foundAs (some e) = found.Found (regionOf e)

@@ -1,5 +1,4 @@
 pub mod AnswerLaw
-pub mod ChecksLaw
 pub mod EntriesLaw
 pub mod ImageLaw
 pub mod JudgeLaw

@@ -1,9 +1,8 @@
 -- The rows and the answer as the paper has them, and what the lent output holds afterwards. (FORMAT 9)
 use mathlib.Core.Path.{_≡_}
-use mathlib.Core.List.{List, [], _∷_}
+use mathlib.Core.List.{List, [], _∷_, _++_}
 use Prim.Native.Nat.{ℕ}
-use lib.ListN.{length}
-use Rattle.laws.specs.Steps.{over}
+use lib.ListN.{length, drop}
 use Rattle.paper.specs.Refusals.{Verdict, fine, refuse}
 use Rattle.paper.specs.Writer as paper
 use Rattle.error.specs.Refused.{numberOf, detailOf}
@@ -31,10 +30,12 @@ abbrev pub answerOf : paper.Written → Answer
 answerOf (paper.image x) = wrote (length x)
 answerOf (paper.refusedPlan n d) = refused n d
 
--- the image over the front of the output, or every byte as it was
+-- the image, and behind it the output's bytes as they were; or every byte as it was
 abbrev pub bytesAfter : paper.Written → List ℕ → List ℕ
-bytesAfter (paper.image x) out = over x out
+bytesAfter (paper.image x) out = x ++ drop (length x) out
 bytesAfter (paper.refusedPlan n d) out = out
+
+-- ---- steps of code, for private contracts
 
 -- a verdict and the length that an accepted plan's image has
 abbrev pub judged : Verdict → ℕ → Answer

@@ -1,4 +1,4 @@
--- A plan's rows as the code keeps them: a number of 64 bits for each row. (FORMAT 9)
+-- Steps of code, for private contracts; nothing that a reader must believe. A plan's rows as the code keeps them: a number of 64 bits for each row. (FORMAT 9)
 use mathlib.Core.Path.{_≡_}
 use mathlib.Core.Bool.{not}
 use mathlib.Core.List.{List, [], _∷_, _++_}

@@ -1,57 +1,51 @@
--- `ecc::column_of` meets its contract. The invariant: as long as nothing is found, `s` is as far past `i` as it is in the columns from
--- `i` on; then `left` is what its place leaves of 72. No other column is `s`, so nothing is added to that.
+-- `ecc::column_of` meets its contract. The invariant: as long as nothing is found, no column before `i` is `s`; then `left` is what its
+-- place leaves of 72. No other column is `s`, so nothing is added to that.
 use mathlib.Core.Path.{_≡_, refl, sym, ap, _∙_, subst}
 use mathlib.Core.Logic.{⊎-elim}
-use mathlib.Core.List.{List}
 use Prim.Native.Nat.{ℕ, zero, suc, _+_, _-_, _≤_, _<_}
 use native.Mathlib.Omega.{arith}
-use native.Mathlib.Numerals.{add-one}
+use native.Mathlib.Decide.{ℕ-discrete}
 use borrow.Author.Needs.{needs}
-use borrow.Author.Tests.{eq-eqb, ne-eqb}
 use lib.Bits.{bitOr}
-use lib.ListN.{length, getD, drop}
-use lib.Seq.{drop-cons}
+use lib.ListN.{getD}
 use Rattle.paper.specs.Parity.{columns, find}
-use Rattle.paper.proofs.ParityLaw.{find-column}
+use Rattle.paper.proofs.ParityLaw.{find-column, find-none, columns-differ}
+use Rattle.ecc.specs.Answers.{placeIn}
 use Rattle.ecc.proofs.column_of.Statement.{statement}
 use Rattle.ecc.proofs.column_of.Tie as tie
 
-here : (s : ℕ) (cs : List ℕ) (i : ℕ) → i < length cs → getD cs i 0 ≡ s → find s (drop i cs) ≡ 0
-unfolding find
-here s cs i h e = rw (drop-cons cs i 0 h, eq-eqb (getD cs i 0) s e)
-
-there : (s : ℕ) (cs : List ℕ) (i : ℕ) → i < length cs → (getD cs i 0 ≡ s → ⊥) → find s (drop i cs) ≡ suc (find s (drop (i + 1) cs))
-unfolding find
-there s cs i h f = rw (add-one, drop-cons cs i 0 h, ne-eqb (getD cs i 0) s f)
-
 record Sought (s left i : ℕ) : Type 0 where
   small : left ≤ 72
-  none : left ≡ 0 → i + find s (drop i columns) ≡ find s columns
-  some : 0 < left → (left + find s columns ≡ 72) × (find s columns < i)
+  none-yet : left ≡ 0 → (k : ℕ) → k < i → getD columns k 0 ≡ s → ⊥
+  one : 0 < left → (getD columns (72 - left) 0 ≡ s) × (72 - left < i)
 
 -- the loop's three steps, over the columns as they are
 found : (s left i : ℕ) → i < 72 → getD columns i 0 ≡ s → Sought s left i → Sought s (bitOr left (72 - i)) (i + 1)
-unfolding columns
 found s zero i h e q =
-    let f : i ≡ find s columns = omega (arith, q .none refl, here s columns i h e) in
-    record { small = omega arith; none = λ z. absurd (omega arith); some = λ p. (omega arith, omega arith) }
+    let p : 72 - (72 - i) ≡ i = omega arith in
+    record { small = omega arith; none-yet = λ z. absurd (omega arith); one = λ l. (ap (λ (k : ℕ). getD columns k 0) p ∙ e, omega arith) }
 found s (suc n) i h e q =
-    let f : find s columns ≡ i = ap (λ (k : ℕ). find k columns) (sym e) ∙ find-column i h in
-    absurd (omega (arith, q .some (omega arith) .1))
+    let o = q .one (omega arith) in
+    absurd (omega (arith, o .1, columns-differ (72 - suc n) i (omega arith) h (o .0 ∙ sym e)))
 
 passed : (s left i : ℕ) → i < 72 → (getD columns i 0 ≡ s → ⊥) → Sought s left i → Sought s left (i + 1)
-unfolding columns
 passed s left i h f q =
     record {
       small = q .small;
-      none = λ z. omega (arith, q .none z, there s columns i h f);
-      some = λ p. (q .some p .0, omega (arith, q .some p .1));
+      none-yet = λ z k l e. earlier k l e z (ℕ-discrete k i);
+      one = λ l. (q .one l .0, omega (arith, q .one l .1));
     }
+  where
+    earlier : (k : ℕ) → k < i + 1 → getD columns k 0 ≡ s → left ≡ 0 → Dec (k ≡ i) → ⊥
+    earlier k l e z (yes d) = f (ap (λ (n : ℕ). getD columns n 0) (sym d) ∙ e)
+    earlier k l e z (no n) = q .none-yet z k (omega arith) e
 
-ended : (s left i : ℕ) → i ≡ 72 → Sought s left i → 72 - left ≡ find s columns
-unfolding columns find
-ended s zero i e q = ap (λ (k : ℕ). k + find s (drop k columns)) (sym e) ∙ q .none refl
-ended s (suc n) i e q = omega (arith, q .some (omega arith) .0)
+ended : (s left i : ℕ) → i ≡ 72 → Sought s left i → 72 - left ≡ placeIn (find s columns)
+unfolding columns
+ended s zero i e q = sym (ap placeIn (find-none s columns (λ k h. q .none-yet refl k (omega arith))))
+ended s (suc n) i e q =
+    let o = q .one (omega arith) in
+    sym (ap placeIn (ap (λ (k : ℕ). find k columns) (sym (o .0)) ∙ find-column (72 - suc n) (omega (arith, o .1))))
 
 abbrev Inv-loop : tie.InvT-loop
 Inv-loop s table left₀ i₀ left i = (i ≤ 72) × Sought s left i
@@ -60,7 +54,7 @@ abbrev μ-loop : tie.MeasureT-loop
 μ-loop s table left₀ i₀ left i = 72 - i
 
 loop-holds : tie.Need-loop-holds Inv-loop μ-loop
-loop-holds c = (omega arith, record { small = omega arith; none = λ z. omega arith; some = λ p. absurd (omega arith) })
+loop-holds c = (omega arith, record { small = omega arith; none-yet = λ z k h. absurd (omega arith); one = λ p. absurd (omega arith) })
 
 loop-again : tie.Need-loop-again Inv-loop μ-loop
 unfolding columns

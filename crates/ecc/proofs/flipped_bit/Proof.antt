@@ -1,12 +1,14 @@
 -- `ecc::flipped_bit` meets its contract. Assumes nothing.
-use mathlib.Core.Path.{_≡_}
+use mathlib.Core.Path.{_≡_, refl, sym}
+use mathlib.Core.Option.{Option, none, some}
 use Prim.Native.Nat.{ℕ, _%_}
 use native.Mathlib.Omega.{arith}
 use borrow.Author.Needs.{needs}
-use borrow.Author.Tests.{ne-eqb}
+use borrow.Author.Tests.{ne-eqb, lt-ltb}
 use lib.Count.{ones}
-use Rattle.paper.specs.Parity.{columns, find, isOdd, beyond, classOf}
-use Rattle.ecc.specs.Answers.{classOfBit}
+use Rattle.paper.specs.Parity.{columns, find, isOdd, beyond, flippedAt, classOf}
+use Rattle.paper.proofs.ParityLaw.{column-found}
+use Rattle.ecc.specs.Answers.{placeIn, classOfBit}
 use Rattle.ecc.proofs.flipped_bit.Statement.{statement}
 use Rattle.ecc.proofs.flipped_bit.Tie as tie
 
@@ -15,9 +17,13 @@ module _ (s : ℕ) (f : s ≡ 0 → ⊥) where
   unfolding classOf isOdd
   is-even e = rw (ne-eqb s 0 f, e)
 
-  is-odd : (ones s % 2 ≡ 0 → ⊥) → {i : ℕ} → i ≡ find s columns → classOf s ≡ classOfBit i
+  is-odd : (ones s % 2 ≡ 0 → ⊥) → {i : ℕ} → i ≡ placeIn (find s columns) → classOf s ≡ classOfBit i
   unfolding classOf isOdd
-  is-odd o {i} e = let one : ones s % 2 ≡ 1 = omega arith in rw (ne-eqb s 0 f, one, ← e)
+  is-odd o {i} e = let one : ones s % 2 ≡ 1 = omega arith in rw (ne-eqb s 0 f, one, e) (go (find s columns) refl)
+    where
+      go : (m : Option ℕ) → find s columns ≡ m → flippedAt m ≡ classOfBit (placeIn m)
+      go none g = refl
+      go (some k) g = sym (rw (lt-ltb k 72 (column-found s k g .0)))
 
 returns : tie.Need-returns
 returns c = (is-even (c .before .args .syndrome) (c .before .pre) (c .if1 .taken), omega arith)

@@ -3,7 +3,7 @@ use mathlib.Core.Path.{sym, ap}
 use borrow.Author.Needs.{needs}
 use Rattle.ecc.specs.Answers.{asOutcome}
 use Rattle.ecc.specs.declared.WordStatus.{WordStatus}
-use Rattle.repair.specs.Answers.{counted}
+use Rattle.repair.specs.Counting.{counted}
 use Rattle.repair.proofs.counts.count_word.Statement.{statement}
 use Rattle.repair.proofs.counts.count_word.Tie as tie
 

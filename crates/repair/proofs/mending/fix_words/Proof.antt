@@ -6,7 +6,7 @@ use lib.ListN.{length, take}
 use Rattle.paper.specs.Scan.{pairsFrom}
 use Rattle.paper.specs.Mend.{fixAll}
 use Rattle.ecc.specs.Answers.{asOutcome}
-use Rattle.repair.specs.Answers.{Room, plus, met}
+use Rattle.repair.specs.Counting.{Room, plus, met}
 use Rattle.repair.proofs.ScrubbingLaw.{room-next, counted-words}
 use Rattle.repair.proofs.MetLaw.{met-next, met-done}
 use Rattle.repair.proofs.MendingLaw.{fix-next, fix-done}

@@ -18,7 +18,7 @@ use Rattle.laws.specs.Steps.{mendHeader, mendWords}
 use Rattle.laws.proofs.Apart.{accepted}
 use Rattle.scan.specs.Answers.{asScan}
 use Rattle.repair.specs.declared.counts.Counts.{Counts}
-use Rattle.repair.specs.Answers.{reportedBy, scanned}
+use Rattle.repair.specs.Counting.{reportedBy, scanned}
 use Rattle.repair.proofs.SettleLaw.{changed-most}
 use Rattle.repair.proofs.MendingLaw.{after-header, mended-all, header-scanned, scanned-report, all-stored, mend-fine}
 use Rattle.repair.proofs.mending.mend_apart.Statement.{statement}

@@ -6,7 +6,7 @@ use borrow.Author.Needs.{needs}
 use denote.Ref.{now}
 use Rattle.paper.specs.Scan.{Pair}
 use Rattle.paper.specs.Mend.{fixAll}
-use Rattle.repair.specs.Answers.{Room, visitedBy, plus, met}
+use Rattle.repair.specs.Counting.{Room, visitedBy, plus, met}
 use Rattle.repair.specs.declared.counts.Counts.{Counts}
 use Rattle.repair.proofs.ScrubbingLaw.{room-visit}
 use Rattle.repair.proofs.mending.mend_region.Statement.{statement}

@@ -9,7 +9,7 @@ use Rattle.paper.specs.Scan.{examinedIn}
 use Rattle.paper.specs.Mend.{fixAll}
 use Rattle.paper.proofs.ScanLaw.{anyOf}
 use Rattle.repair.specs.Runs.{visitsAt}
-use Rattle.repair.specs.Answers.{Room, visitedBy, plus, met}
+use Rattle.repair.specs.Counting.{Room, visitedBy, plus, met}
 use Rattle.repair.proofs.MendingLaw.{fixedTo, tallied, none-fixed, none-tallied, fixed-next, tally-next, all-fixed, tally-all}
 use Rattle.repair.proofs.mending.mend_words.Statement.{statement}
 use Rattle.repair.proofs.mending.mend_words.Tie as tie

@@ -17,7 +17,7 @@ use Rattle.paper.specs.Scrub.{State, Scrubbed, scrubFrom, reported}
 use Rattle.paper.specs.Scrub as paper
 use Rattle.view.specs.declared.header.Header.{Header}
 use Rattle.view.proofs.AnswersLaw.{parsed-fine, parsed-count, parsed-refused}
-use Rattle.repair.specs.Answers.{Stands, scrubIn, Room}
+use Rattle.repair.specs.Counting.{Stands, scrubIn, Room}
 use Rattle.repair.specs.declared.counts.Counts.{Counts}
 use Rattle.repair.proofs.ScrubbingLaw.{image-same, region-is, from-next, from-failed, from-done, scrub-failed, scrub-starts, start-stands, stands-report}
 use Rattle.repair.proofs.scrubbing.scrub.Statement.{statement}

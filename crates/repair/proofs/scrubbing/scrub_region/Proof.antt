@@ -7,7 +7,7 @@ use denote.Ref.{now}
 use Rattle.paper.specs.Scan.{Pair}
 use Rattle.paper.specs.Scrub.{scrubWords}
 use Rattle.paper.proofs.ScanLaw.{anyOf, mark}
-use Rattle.repair.specs.Answers.{Stands, visitedBy, Room}
+use Rattle.repair.specs.Counting.{Stands, visitedBy, Room}
 use Rattle.repair.specs.Runs.{visitsAt}
 use Rattle.repair.specs.declared.counts.Counts.{Counts}
 use Rattle.repair.proofs.ScrubbingLaw.{room-visit, region-stands}

@@ -6,7 +6,7 @@ use lib.ListN.{length, take}
 use Rattle.paper.specs.Scan.{Pair, pairsFrom, classAt}
 use Rattle.paper.specs.Scrub.{State, storedWord, scrubWord, scrubWords}
 use Rattle.ecc.specs.Answers.{asOutcome}
-use Rattle.repair.specs.Answers.{Stands, Room}
+use Rattle.repair.specs.Counting.{Stands, Room}
 use Rattle.repair.proofs.ScrubbingLaw.{one-word, stored-length, room-next, Left, words-next, words-done, counted-words}
 use Rattle.repair.specs.declared.counts.Counts.{Counts}
 use Rattle.repair.proofs.scrubbing.scrub_words.Statement.{statement}

@@ -7,8 +7,7 @@ use denote.Ref.{now}
 use Rattle.paper.specs.Parity.{checkOf}
 use Rattle.paper.specs.Writer.{checks}
 use Rattle.scalar.proofs.OrZero.{or-zero-in}
-use Rattle.laws.proofs.PlanPairs.{length-checks}
-use Rattle.writer.proofs.ChecksLaw.{check-at}
+use Rattle.laws.proofs.PlanPairs.{length-checks, at-checks}
 use Rattle.laws.proofs.PutLaw.{kept-length, Bytewise, none-put, byte-room, byte-put, all-put}
 use Rattle.writer.proofs.put.put_checks.Statement.{statement}
 use Rattle.writer.proofs.put.put_checks.Tie as tie
@@ -33,7 +32,7 @@ loop-again c =
     let g = c .before .before .before .before .before .before .args in
     let w : ℕ = c .before .before .before .loop .w in
     byte-put _ _ (c .before .before .before .loop .inv) _ (omega (arith, length-checks (g .words) (g .b .now)))
-    (c .check-byte .ensures ∙ ap checkOf (c .before .u64-or-zero .ensures ∙ or-zero-in 8 (g .b .now) (8 * w) (omega arith)) ∙ sym (check-at (g .words) (g .b .now) w (omega arith)))
+    (c .check-byte .ensures ∙ ap checkOf (c .before .u64-or-zero .ensures ∙ or-zero-in 8 (g .b .now) (8 * w) (omega arith)) ∙ sym (at-checks (g .words) (g .b .now) w (omega arith)))
 
 add-result : tie.Need-add-result Inv-loop μ-loop
 add-result c = omega (arith, c .before .loop .inv .going .room, kept-length _ _ _ (c .before .loop .inv .going))
