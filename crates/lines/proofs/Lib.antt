@@ -1,2 +1,1 @@
-pub mod DecimalLaw
 pub mod TextLaw

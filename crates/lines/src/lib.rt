@@ -1,5 +1,5 @@
 // What the programs print, made in a buffer of the caller's. (FORMAT 11)
-mod put;
+mod line;
 
 ghost use mathlib.Core.Path.{_≡_};
 ghost use lib.ListN.{length, take};
@@ -7,11 +7,11 @@ ghost use lib.Seq.{sets};
 ghost use Rattle.io.specs.Counts.{Counts};
 ghost use Rattle.paper.specs.Programs.{reportText, scrubImage, scrubLine};
 ghost use Rattle.lines.specs.Left.{leftIn};
-use put::put_ecc;
-use put::put_refused;
-use put::put_regions;
-use put::put_stored;
-use put::put_too_long;
+use line::put_ecc;
+use line::put_refused;
+use line::put_regions;
+use line::put_stored;
+use line::put_too_long;
 use repair::MendResult;
 use view::ParseResult;
 

@@ -19,8 +19,8 @@ use Rattle.writer.specs.declared.room.WriteResult.{WriteResult}
 use Rattle.writer.specs.declared.room.WriteResult.the-variants as result
 use Rattle.writer.specs.Answers.{wrote, refused, asWritten, judged, Answered}
 use Rattle.writer.specs.Kept.{sizesVerdict, checkedVerdict}
-use Rattle.laws.specs.Put.{Put}
-use Rattle.laws.proofs.PutLaw.{put-over}
+use Rattle.put.specs.Put.{Put}
+use Rattle.laws.proofs.AppendLaw.{put-over}
 
 -- ---- what judge says
 

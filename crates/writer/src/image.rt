@@ -7,18 +7,17 @@ ghost use Rattle.paper.specs.Writer.{prologueBytes, rowWords, planesWords, rowE
 ghost use Rattle.paper.specs.Writer as paper;
 ghost use Rattle.writer.specs.Answers.{Answered};
 ghost use Rattle.writer.specs.Kept.{kindIn, rowOf, rowEntry, rowsOf, directoryBytes, Low, keptRows, Kept, Sized, sizesVerdict, checkedVerdict};
-ghost use Rattle.laws.specs.Put.{Put};
+ghost use Rattle.put.specs.Put.{Put};
 ghost use Rattle.layout.specs.Regions.{asEntry};
+use super::parts::put_entry;
+use super::parts::put_plane;
+use super::parts::put_prologue;
 use super::plan::Checked;
 use super::plan::flags_of;
 use super::plan::is_protected;
 use super::plan::kind_of;
 use super::plan::plane_words;
 use super::plan::words_of;
-use super::put::put_bytes;
-use super::put::put_entry;
-use super::put::put_plane;
-use super::put::put_prologue;
 use super::room::WriteResult;
 use super::room::judge;
 use super::room::row_words;
@@ -27,6 +26,7 @@ use error::Refusal;
 use layout::FLAG_IS_ECC;
 use layout::MAX_REGIONS;
 use layout::Region;
+use put::put_bytes;
 
 // What is refused, or the image written: of `count` rows whose checks said `checked`, kept in `plan` if they are few.
 pub(crate) fn write_plan(

@@ -5,8 +5,8 @@ ghost use Rattle.paper.specs.Writer as paper;
 ghost use Rattle.writer.specs.Answers.{asPlan, asWritten, answerOf, bytesAfter};
 
 mod image;
+mod parts;
 mod plan;
-mod put;
 mod room;
 
 use image::write_plan;

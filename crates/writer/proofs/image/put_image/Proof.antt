@@ -10,9 +10,9 @@ use Rattle.paper.specs.Writer.{Row, prologueBytes, planesBytes, imageOf, imageL
 use Rattle.paper.proofs.BytesLaw.{length-thrice}
 use Rattle.laws.proofs.PlanPairs.{length-planes}
 use Rattle.writer.specs.Kept.{rowsOf}
-use Rattle.laws.specs.Put.{Put}
+use Rattle.put.specs.Put.{Put}
 use Rattle.writer.proofs.ImageLaw.{copyOf, copy-is, copy-length, prologues-length, image-length}
-use Rattle.laws.proofs.PutLaw.{begin, go-on, last}
+use Rattle.put.proofs.PutLaw.{begin, go-on, last}
 use borrow.Author.Needs.{needs}
 use Rattle.writer.proofs.image.put_image.Statement.{statement}
 use Rattle.writer.proofs.image.put_image.Tie as tie

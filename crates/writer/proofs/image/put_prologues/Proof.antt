@@ -7,7 +7,7 @@ use Rattle.paper.specs.Writer.{prologueBytes}
 use Rattle.paper.specs.Bytes.{thrice}
 use Rattle.laws.proofs.ImageLaw.{length-prologueBytes}
 use Rattle.writer.proofs.ImageLaw.{prologues-length}
-use Rattle.laws.proofs.PutLaw.{begin, go-on, last}
+use Rattle.put.proofs.PutLaw.{begin, go-on, last}
 use borrow.Author.Needs.{needs}
 use Rattle.writer.proofs.image.put_prologues.Statement.{statement}
 use Rattle.writer.proofs.image.put_prologues.Tie as tie
