@@ -18,7 +18,7 @@ use Rattle.paper.specs.Layout.{Entry, isPlane}
 use Rattle.paper.specs.Parity.{checkOf}
 use Rattle.paper.specs.Views.{firstThat, planeFor}
 use Rattle.paper.specs.Scan.{planeOf, Pair, pairsFrom, pairsWith, regionPairs, isProtected, pairsOver, Among, found, visitsAny}
-use Rattle.paper.specs.Writer.{Row, flagged, planeWords, rowEntries, planeEntry, planeEntries, rowWords, planesWords, planes, kindAmong, checks, planeBytes, planesBytes}
+use Rattle.paper.specs.Writer.{Row, flagged, planeWords, rowEntry, rowEntries, planeEntry, planeEntries, rowWords, planesWords, planes, kindAmong, checks, planeBytes, planesBytes}
 use Rattle.paper.proofs.BytesLaw.{read-ext, read-drop, at-left, at-right}
 use Rattle.laws.proofs.VerdictLaw.{true-false, or-left, or-right}
 use Rattle.laws.proofs.EntriesLaw.{In, now, next, in-left, EntriesOK, plane-plain}
@@ -33,9 +33,6 @@ pairsPlan (r ∷ rs) a b =
     cond (flagged r) (pairsFrom (r .words) a (8 * b)) [] ++ pairsPlan rs (a + r .words) (b + cond (flagged r) (planeWords r) 0)
 
 -- ---- each flagged row's plane is the first that covers its kind
-
-abbrev rowEntry : ℕ → Row → Entry
-rowEntry a r = record { kind = r .kind; flags = r .flags; offset = a; words = r .words; covers = 0; spare = 0 }
 
 -- the planes lie from word b on
 data Finds (all : List Entry) : List Row → ℕ → Type 0 where

@@ -21,8 +21,8 @@ copy-is n w rs e f = ap₂ (λ (m v : ℕ). copyOf m v rs) e f
 pub copy-length : (rs : List Row) → length (entriesBytes (planDirectory rs)) ≡ 16 * regions rs
 copy-length rs = length-entriesBytes (planDirectory rs) ∙ ap (λ (m : ℕ). 16 * m) (length-directory rs)
 
-pub prologues-length : (n : ℕ) → length (thrice (prologueBytes n)) ≡ 48
-prologues-length n = length-thrice (prologueBytes n) 16 (length-prologueBytes n)
+pub prologues-length : (n flags : ℕ) → length (thrice (prologueBytes n flags)) ≡ 48
+prologues-length n flags = length-thrice (prologueBytes n flags) 16 (length-prologueBytes n flags)
 
 pub copies-length : (rs : List Row) → length (thrice (entriesBytes (planDirectory rs))) ≡ 48 * regions rs
 copies-length rs = length-thrice (entriesBytes (planDirectory rs)) (16 * regions rs) (copy-length rs) ∙ omega arith
@@ -34,10 +34,10 @@ image-length rs payload e =
     let q = planesBytes rs payload in
     omega (
       arith,
-      length-append (thrice (prologueBytes (regions rs))) (c ++ (payload ++ q)),
+      length-append (thrice (prologueBytes (regions rs) 0)) (c ++ (payload ++ q)),
       length-append c (payload ++ q),
       length-append payload q,
-      prologues-length (regions rs),
+      prologues-length (regions rs) 0,
       copies-length rs,
       length-planes rs payload,
     )

@@ -3,10 +3,10 @@ ghost use mathlib.Core.Path.{_≡_};
 ghost use Prim.Native.Nat.{ℕ, _+_, _*_, _≤_, _<_};
 ghost use lib.ListN.{length, getD};
 ghost use Rattle.paper.specs.Bytes.{thrice};
-ghost use Rattle.paper.specs.Writer.{prologueBytes, rowWords, planesWords, rowEntries, planeEntries, entriesBytes, planesBytes, imageOf};
+ghost use Rattle.paper.specs.Writer.{prologueBytes, rowWords, planesWords, rowEntry, planeEntry, rowEntries, planeEntries, entriesBytes, planesBytes, imageOf};
 ghost use Rattle.paper.specs.Writer as paper;
 ghost use Rattle.writer.specs.Answers.{Answered};
-ghost use Rattle.writer.specs.Kept.{kindIn, rowOf, rowEntry, rowsOf, directoryBytes, Low, keptRows, Kept, Sized, sizesVerdict, checkedVerdict};
+ghost use Rattle.writer.specs.Kept.{kindIn, rowOf, rowsOf, directoryBytes, Low, keptRows, Kept, Sized, sizesVerdict, checkedVerdict};
 ghost use Rattle.put.specs.Put.{Put};
 ghost use Rattle.layout.specs.Regions.{asEntry};
 use super::parts::put_entry;
@@ -70,7 +70,7 @@ fn put_image(out: &mut [u8], rows: &[u64], regions: usize, payload: &[u8]) -> us
     requires { ⌜ Sized (now rows) regions (now payload) (now out) ⌝ }
     ensures { λ r. ⌜ Put (now (out .entry)) 0 (imageOf (rowsOf (now (rows .entry))) (now (payload .entry))) r (now (out .exit)) ⌝ }
 {
-    let directory = put_prologues(out, regions as u16);
+    let directory = put_prologues(out, regions as u16, 0);
     let first_word = 6 + 6 * (regions as u32);
     let plane_word = first_word + row_words(rows) as u32;
     let packed = put_directories(out, directory, rows, first_word, plane_word);
@@ -78,13 +78,13 @@ fn put_image(out: &mut [u8], rows: &[u64], regions: usize, payload: &[u8]) -> us
     put_planes(out, planes, rows, payload)
 }
 
-fn put_prologues(out: &mut [u8], regions: u16) -> usize
+fn put_prologues(out: &mut [u8], regions: u16, flags: u16) -> usize
     requires { ⌜ 48 ≤ length (now out) ⌝ }
-    ensures { λ r. ⌜ Put (now (out .entry)) 0 (thrice (prologueBytes regions)) r (now (out .exit)) ⌝ }
+    ensures { λ r. ⌜ Put (now (out .entry)) 0 (thrice (prologueBytes regions flags)) r (now (out .exit)) ⌝ }
 {
-    let second = put_prologue(out, 0, regions);
-    let third = put_prologue(out, second, regions);
-    put_prologue(out, third, regions)
+    let second = put_prologue(out, 0, regions, flags);
+    let third = put_prologue(out, second, regions, flags);
+    put_prologue(out, third, regions, flags)
 }
 
 fn put_directories(
@@ -169,7 +169,7 @@ fn row_entry(row: u64, offset: u32) -> Region
 
 fn plane_entry(row: u64, offset: u32) -> Region
     requires { ⌜ kindIn row < 0x8000 ⌝ }
-    ensures { λ r. ⌜ asEntry r ≡ paper.planeEntry offset (rowOf row) ⌝ }
+    ensures { λ r. ⌜ asEntry r ≡ planeEntry offset (rowOf row) ⌝ }
 {
     let kind = kind_of(row);
     Region {

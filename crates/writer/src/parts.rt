@@ -18,22 +18,22 @@ use put::put_u32;
 use put::put_zeros;
 use scalar::u64_or_zero;
 
-fn put_prologue_start(out: &mut [u8], at: usize, regions: u16) -> usize
+fn put_prologue_start(out: &mut [u8], at: usize, regions: u16, flags: u16) -> usize
     requires { ⌜ at + 12 ≤ length (now out) ⌝ }
-    ensures { λ r. ⌜ Put (now (out .entry)) at (prologueStart regions) r (now (out .exit)) ⌝ }
+    ensures { λ r. ⌜ Put (now (out .entry)) at (prologueStart regions flags) r (now (out .exit)) ⌝ }
 {
     let marker = put_u32(out, at, MAGIC);
     let version = put_u16(out, marker, BOM);
     let count = put_u16(out, version, FORMAT_VERSION);
-    let flags = put_u16(out, count, regions);
-    put_u16(out, flags, 0)
+    let behind = put_u16(out, count, regions);
+    put_u16(out, behind, flags)
 }
 
-pub(crate) fn put_prologue(out: &mut [u8], at: usize, regions: u16) -> usize
+pub(crate) fn put_prologue(out: &mut [u8], at: usize, regions: u16, flags: u16) -> usize
     requires { ⌜ at + 16 ≤ length (now out) ⌝ }
-    ensures { λ r. ⌜ Put (now (out .entry)) at (prologueBytes regions) r (now (out .exit)) ⌝ }
+    ensures { λ r. ⌜ Put (now (out .entry)) at (prologueBytes regions flags) r (now (out .exit)) ⌝ }
 {
-    let checksum = put_prologue_start(out, at, regions);
+    let checksum = put_prologue_start(out, at, regions, flags);
     let crc = crc32(&out[at..checksum]);
     put_u32(out, checksum, crc)
 }

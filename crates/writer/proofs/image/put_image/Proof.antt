@@ -53,7 +53,7 @@ put-directories-requires c κs = let g = c .before .before .before .before .befo
     let n : ℕ = g .args .regions in
     let w : ℕ = c .before .row-words .result in
     let l : length (copyOf n w rs) ≡ 16 * n = ap length (copy-is n w rs (s .counted) (c .before .row-words .ensures .0)) ∙ copy-length rs ∙ ap (λ (m : ℕ). 16 * m) (sym (s .counted)) in (
-      omega (arith, l, s .room, s .counted, c .before .before .before .before .put-prologues .ensures .behind, c .before .before .before .before .put-prologues .ensures .long, prologues-length n),
+      omega (arith, l, s .room, s .counted, c .before .before .before .before .put-prologues .ensures .behind, c .before .before .before .before .put-prologues .ensures .long, prologues-length n 0),
       omega (arith, s .fits, s .counted),
       omega (arith, s .fits, s .counted, c .before .row-words .ensures .0),
       s .lowKinds,
@@ -69,7 +69,7 @@ put-bytes-requires c κs = let g = c .before .before .before .before .before .be
     let w : ℕ = c .before .before .before .before .before .row-words .result in
     let l : length (copyOf n w rs) ≡ 16 * n = ap length (copy-is n w rs (s .counted) (c .before .before .before .before .before .row-words .ensures .0)) ∙ copy-length rs ∙ ap (λ (m : ℕ). 16 * m) (sym (s .counted)) in
     let l3 : length (thrice (copyOf n w rs)) ≡ 3 * (16 * n) = length-thrice (copyOf n w rs) (16 * n) l in
-    omega (arith, l3, s .room, s .counted, s .full, c .before .before .before .put-directories .ensures .behind, c .before .before .before .put-directories .ensures .long, c .before .before .before .before .before .before .before .before .put-prologues .ensures .behind, c .before .before .before .before .before .before .before .before .put-prologues .ensures .long, prologues-length n)
+    omega (arith, l3, s .room, s .counted, s .full, c .before .before .before .put-directories .ensures .behind, c .before .before .before .put-directories .ensures .long, c .before .before .before .before .before .before .before .before .put-prologues .ensures .behind, c .before .before .before .before .before .before .before .before .put-prologues .ensures .long, prologues-length n 0)
 
 put-planes-requires : tie.Need-put-planes-requires
 unfolding imageLength
@@ -81,7 +81,7 @@ put-planes-requires c κs = let g = c .before .before .before .before .before .b
     let w : ℕ = c .before .before .before .before .before .before .before .before .before .row-words .result in
     let l : length (copyOf n w rs) ≡ 16 * n = ap length (copy-is n w rs (s .counted) (c .before .before .before .before .before .before .before .before .before .row-words .ensures .0)) ∙ copy-length rs ∙ ap (λ (m : ℕ). 16 * m) (sym (s .counted)) in
     let l3 : length (thrice (copyOf n w rs)) ≡ 3 * (16 * n) = length-thrice (copyOf n w rs) (16 * n) l in
-    (omega (arith, l3, s .room, s .counted, s .full, c .before .before .before .put-bytes .ensures .behind, c .before .before .before .put-bytes .ensures .long, c .before .before .before .before .before .before .before .put-directories .ensures .behind, c .before .before .before .before .before .before .before .put-directories .ensures .long, c .before .before .before .before .before .before .before .before .before .before .before .before .put-prologues .ensures .behind, c .before .before .before .before .before .before .before .before .before .before .before .before .put-prologues .ensures .long, prologues-length n, length-planes rs payload), s .full)
+    (omega (arith, l3, s .room, s .counted, s .full, c .before .before .before .put-bytes .ensures .behind, c .before .before .before .put-bytes .ensures .long, c .before .before .before .before .before .before .before .put-directories .ensures .behind, c .before .before .before .before .before .before .before .put-directories .ensures .long, c .before .before .before .before .before .before .before .before .before .before .before .before .put-prologues .ensures .behind, c .before .before .before .before .before .before .before .before .before .before .before .before .put-prologues .ensures .long, prologues-length n 0, length-planes rs payload), s .full)
 
 returns : tie.Need-returns
 unfolding imageOf
@@ -92,11 +92,11 @@ returns c = let g = c .before .before .before .before .before .before .before .b
     let n : ℕ = g .args .regions in
     let w : ℕ = c .before .before .before .before .before .before .before .before .before .before .before .before .row-words .result in
     let o : List ℕ = now (g .args .out) in
-    let a : List ℕ = thrice (prologueBytes n) in
+    let a : List ℕ = thrice (prologueBytes n 0) in
     let d : List ℕ = thrice (copyOf n w rs) in
     let q : List ℕ = planesBytes rs payload in
     let e : a ++ (d ++ (payload ++ q)) ≡ imageOf rs payload =
-    ap₂ (λ (m : ℕ) (x : List ℕ). thrice (prologueBytes m) ++ (thrice x ++ (payload ++ q))) (s .counted) (copy-is n w rs (s .counted) (c .before .before .before .before .before .before .before .before .before .before .before .before .row-words .ensures .0)) in
+    ap₂ (λ (m : ℕ) (x : List ℕ). thrice (prologueBytes m 0) ++ (thrice x ++ (payload ++ q))) (s .counted) (copy-is n w rs (s .counted) (c .before .before .before .before .before .before .before .before .before .before .before .before .row-words .ensures .0)) in
     let g0 = begin o 0 (a ++ (d ++ (payload ++ q))) (omega (arith, s .room, ap length e, image-length rs payload (s .full))) in
     let g1 = go-on _ _ a (d ++ (payload ++ q)) g0 (c .before .before .before .before .before .before .before .before .before .before .before .before .before .before .before .put-prologues .ensures) in
     let g2 = go-on _ _ d (payload ++ q) g1 (c .before .before .before .before .before .before .before .before .before .before .put-directories .ensures) in

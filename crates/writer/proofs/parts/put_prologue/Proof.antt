@@ -1,5 +1,5 @@
 -- `writer::parts::put_prologue` meets its contract. Assumes nothing.
-use mathlib.Core.Path.{_≡_, refl, ap, _∙_, subst}
+use mathlib.Core.Path.{_≡_, ap, _∙_, subst}
 use Prim.Native.Nat.{ℕ}
 use native.Mathlib.Omega.{arith}
 use denote.Ref.{now}
@@ -9,15 +9,12 @@ use Rattle.paper.proofs.BytesLaw.{length-le}
 use Rattle.paper.specs.Bytes.{le}
 use Rattle.paper.specs.Crc.{crc32}
 use Rattle.paper.specs.Writer.{prologueStart, prologueBytes}
+use Rattle.laws.proofs.ImageLaw.{length-prologueStart}
 use Rattle.put.specs.Put.{Put}
 use Rattle.put.proofs.PutLaw.{Going, begin, go-on, last, put-read}
 use borrow.Author.Needs.{needs}
 use Rattle.writer.proofs.parts.put_prologue.Statement.{statement}
 use Rattle.writer.proofs.parts.put_prologue.Tie as tie
-
-start-length : (n : ℕ) → length (prologueStart n) ≡ 12
-unfolding prologueStart le
-start-length n = refl
 
 part-crc32-end : tie.Need-part-crc32-end
 unfolding prologueStart le
@@ -33,9 +30,9 @@ returns c =
     let g = c .before .before .before .before .before .before .before .before .before .before .before .before in
     let o : List ℕ = now (g .args .out) in
     let p : ℕ = g .args .at in
-    let s : List ℕ = prologueStart (g .args .regions) in
-    let long : length s ≡ 12 = start-length (g .args .regions) in
-    let g0 : Going o p (prologueBytes (g .args .regions)) o p (s ++ le 4 (crc32 s)) = begin o p (s ++ le 4 (crc32 s)) (omega (arith, g .pre, length-append s (le 4 (crc32 s)), length-le 4 (crc32 s))) in
+    let s : List ℕ = prologueStart (g .args .regions) (g .args .flags) in
+    let long : length s ≡ 12 = length-prologueStart (g .args .regions) (g .args .flags) in
+    let g0 : Going o p (prologueBytes (g .args .regions) (g .args .flags)) o p (s ++ le 4 (crc32 s)) = begin o p (s ++ le 4 (crc32 s)) (omega (arith, g .pre, length-append s (le 4 (crc32 s)), length-le 4 (crc32 s))) in
     let g1 = go-on _ _ s (le 4 (crc32 s)) g0 (c .before .before .before .before .before .before .before .before .before .put-prologue-start .ensures) in
     let e : c .before .before .before .before .crc32 .result ≡ crc32 s = c .before .before .before .before .crc32 .ensures .0 ∙ ap crc32 (put-read o p s (c .before .before .before .before .before .before .before .before .before .put-prologue-start .ensures) (omega (arith, g .pre))) in
     last _ _ (le 4 (crc32 s)) g1 (subst (λ (k : ℕ). Put (c .before .before .before .before .before .before .before .before .before .put-prologue-start .last .0) (c .before .before .before .before .before .before .before .before .before .put-prologue-start .result) (le 4 k) (c .before .before .put-u32 .result) (c .before .before .put-u32 .last .0)) e (c .before .before .put-u32 .ensures))
