@@ -14,7 +14,7 @@ use Rattle.paper.specs.Layout.{voted, prologue, countIn, count, headerLength, d
 use Rattle.paper.specs.Parse.{prologueVerdict, parseVerdict}
 use Rattle.paper.specs.Scan.{Among, examined, visitsAny}
 use Rattle.paper.specs.Mend.{mendVerdict}
-use Rattle.paper.specs.Writer.{Row, flagged, planeWords, rowEntry, rowEntries, planeEntry, planeEntries, rowWords, planesWords, planes, regions, firstWord, planDirectory, entryBytes, entriesBytes, prologueStart, prologueBytes, checks, planeBytes, planesBytes, imageOf, imageLength}
+use Rattle.paper.specs.Writer.{Row, flagged, planeWords, rowEntry, rowEntries, planeEntry, planeEntries, rowWords, planesWords, planes, regions, firstWord, planDirectory, entryBytes, entriesBytes, prologueStart, prologueBytes, checks, planeBytes, planesBytes, planImage, imageLength}
 use Rattle.paper.proofs.BytesLaw.{read-le, at-left, at-right, length-thrice}
 use Rattle.paper.proofs.ParseLaw.{good-prologue, entries-say}
 use Rattle.laws.proofs.HeaderLaw.{voted-copies, copies-first, copies-second}
@@ -241,8 +241,8 @@ module _ (rs : List Row) (payload : List ℕ) (ok : PlanOK rs payload) where
   unfolding D
   length-D = length-entriesBytes (planDirectory rs) ∙ ap (λ (m : ℕ). 16 * m) (length-directory rs)
 
-  split : imageOf rs payload ≡ (thrice P ++ thrice D) ++ B
-  unfolding imageOf P D B
+  split : planImage rs payload ≡ (thrice P ++ thrice D) ++ B
+  unfolding planImage P D B
   split = sym (append-assoc (thrice P) (thrice D) B)
 
   length-head : length (thrice P ++ thrice D) ≡ headerLength (regions rs)
@@ -250,14 +250,14 @@ module _ (rs : List Row) (payload : List ℕ) (ok : PlanOK rs payload) where
   length-head =
       omega (arith, length-append (thrice P) (thrice D), length-thrice P 16 (length-prologueBytes (regions rs) 0), length-thrice D (16 * regions rs) length-D)
 
-  in-head : (i : ℕ) → i < headerLength (regions rs) → at (imageOf rs payload) i ≡ at (thrice P ++ thrice D) i
+  in-head : (i : ℕ) → i < headerLength (regions rs) → at (planImage rs payload) i ≡ at (thrice P ++ thrice D) i
   in-head i h = ap (λ (l : List ℕ). at l i) split ∙ at-left (thrice P ++ thrice D) B (headerLength (regions rs)) i length-head h
 
-  pub in-body : (j : ℕ) → at (imageOf rs payload) (headerLength (regions rs) + j) ≡ at (payload ++ planesBytes rs payload) j
+  pub in-body : (j : ℕ) → at (planImage rs payload) (headerLength (regions rs) + j) ≡ at (payload ++ planesBytes rs payload) j
   unfolding B
   in-body j = ap (λ (l : List ℕ). at l (headerLength (regions rs) + j)) split ∙ at-right (thrice P ++ thrice D) B (headerLength (regions rs)) j length-head
 
-  pub written-length : length (imageOf rs payload) ≡ imageLength rs
+  pub written-length : length (planImage rs payload) ≡ imageLength rs
   unfolding B imageLength
   written-length =
       omega (
@@ -270,48 +270,48 @@ module _ (rs : List Row) (payload : List ℕ) (ok : PlanOK rs payload) where
         ok .full,
       )
 
-  pub prologue-back : prologue (imageOf rs payload) ≡ prologueBytes (regions rs) 0
+  pub prologue-back : prologue (planImage rs payload) ≡ prologueBytes (regions rs) 0
   unfolding prologue P
   prologue-back =
-      voted-copies (imageOf rs payload) 0 16 P (length-prologueBytes (regions rs) 0)
-      (copies-first (imageOf rs payload) P D (16 * regions rs) (length-prologueBytes (regions rs) 0) length-D (λ i h. in-head i (omega arith)))
+      voted-copies (planImage rs payload) 0 16 P (length-prologueBytes (regions rs) 0)
+      (copies-first (planImage rs payload) P D (16 * regions rs) (length-prologueBytes (regions rs) 0) length-D (λ i h. in-head i (omega arith)))
 
-  pub count-is : count (imageOf rs payload) ≡ regions rs
+  pub count-is : count (planImage rs payload) ≡ regions rs
   unfolding count
   count-is = ap countIn prologue-back ∙ count-back (regions rs) 0 (omega (arith, ok .few))
 
-  pub directoryBytes-back : directoryBytes (imageOf rs payload) ≡ entriesBytes (planDirectory rs)
+  pub directoryBytes-back : directoryBytes (planImage rs payload) ≡ entriesBytes (planDirectory rs)
   unfolding directoryBytes directoryBytesOf D P
   directoryBytes-back =
-      ap (λ (m : ℕ). voted 48 (16 * m) (imageOf rs payload)) count-is
-      ∙ voted-copies (imageOf rs payload) 48 (16 * regions rs) D length-D
-      (copies-second (imageOf rs payload) P D (16 * regions rs) (length-prologueBytes (regions rs) 0) length-D (λ i h. in-head i (omega arith)))
+      ap (λ (m : ℕ). voted 48 (16 * m) (planImage rs payload)) count-is
+      ∙ voted-copies (planImage rs payload) 48 (16 * regions rs) D length-D
+      (copies-second (planImage rs payload) P D (16 * regions rs) (length-prologueBytes (regions rs) 0) length-D (λ i h. in-head i (omega arith)))
 
-  pub directory-back : directory (imageOf rs payload) ≡ planDirectory rs
+  pub directory-back : directory (planImage rs payload) ≡ planDirectory rs
   unfolding directory directoryOf directoryBytes
   directory-back =
       ap₂ entries (count-is ∙ sym (length-directory rs)) directoryBytes-back
       ∙ entries-back (planDirectory rs) (fit-directory rs (ok .rows) (ok .small))
 
-  header-back : header (imageOf rs payload) ≡ thrice P ++ thrice D
+  header-back : header (planImage rs payload) ≡ thrice P ++ thrice D
   unfolding header P D
   header-back = ap₂ (λ (p d : List ℕ). thrice p ++ thrice d) prologue-back directoryBytes-back
 
   entries-in : EntriesOK (imageLength rs) (planDirectory rs)
   entries-in = directory-ok (imageLength rs) rs (ok .rows) (omega arith)
 
-  pub examined-back : examined (imageOf rs payload) ≡ pairsPlan rs (firstWord rs) (firstWord rs + rowWords rs)
+  pub examined-back : examined (planImage rs payload) ≡ pairsPlan rs (firstWord rs) (firstWord rs + rowWords rs)
   unfolding examined planDirectory
   examined-back =
       rw (written-length, directory-back) (plan-pairs (imageLength rs) (firstWord rs) (firstWord rs + rowWords rs) rs (ok .rows) entries-in)
 
-  pub visits-back : visitsAny (length (imageOf rs payload)) (directory (imageOf rs payload)) (directory (imageOf rs payload)) ≡ ltb 0 (planes rs)
+  pub visits-back : visitsAny (length (planImage rs payload)) (directory (planImage rs payload)) (directory (planImage rs payload)) ≡ ltb 0 (planes rs)
   unfolding planDirectory
   visits-back =
       rw (written-length, directory-back) (plan-visits (imageLength rs) (firstWord rs) (firstWord rs + rowWords rs) rs (ok .rows) entries-in)
 
-  bytes-image : Bytes payload → Bytes (imageOf rs payload)
-  unfolding imageOf
+  bytes-image : Bytes payload → Bytes (planImage rs payload)
+  unfolding planImage
   bytes-image b =
       bytes-append (thrice (prologueBytes (regions rs) 0)) (thrice (entriesBytes (planDirectory rs)) ++ (payload ++ planesBytes rs payload))
       (bytes-thrice (prologueBytes (regions rs) 0) (bytes-prologue (regions rs) 0))
@@ -319,31 +319,31 @@ module _ (rs : List Row) (payload : List ℕ) (ok : PlanOK rs payload) where
       (bytes-thrice (entriesBytes (planDirectory rs)) (bytes-entries (planDirectory rs)))
       (bytes-append payload (planesBytes rs payload) b (bytes-planes rs payload)))
 
-  pub in-order : Bytes payload → InOrder (imageOf rs payload)
+  pub in-order : Bytes payload → InOrder (planImage rs payload)
   in-order b =
       record {
         bytes = bytes-image b;
         copies = λ p h. in-head p (subst (λ (m : ℕ). p < headerLength m) count-is h) ∙ ap (λ (l : List ℕ). at l p) (sym header-back);
         checks = λ q c i.
-            checked (imageOf rs payload) rs (firstWord rs) (firstWord rs + rowWords rs) payload
+            checked (planImage rs payload) rs (firstWord rs) (firstWord rs + rowWords rs) payload
             (λ j h. let e : 8 * firstWord rs + j ≡ headerLength (regions rs) + j = omega arith in
-            ap (at (imageOf rs payload)) e ∙ in-body j ∙ at-left payload (planesBytes rs payload) (8 * rowWords rs) j (ok .full) h)
+            ap (at (planImage rs payload)) e ∙ in-body j ∙ at-left payload (planesBytes rs payload) (8 * rowWords rs) j (ok .full) h)
             (λ j h. let e : 8 * (firstWord rs + rowWords rs) + j ≡ headerLength (regions rs) + (8 * rowWords rs + j) = omega arith in
-            ap (at (imageOf rs payload)) e ∙ in-body (8 * rowWords rs + j) ∙ at-right payload (planesBytes rs payload) (8 * rowWords rs) j (ok .full))
+            ap (at (planImage rs payload)) e ∙ in-body (8 * rowWords rs + j) ∙ at-right payload (planesBytes rs payload) (8 * rowWords rs) j (ok .full))
             q c (subst (Among q c) examined-back i);
       }
 
-  pub parse-fine : parseVerdict (imageOf rs payload) ≡ fine
+  pub parse-fine : parseVerdict (planImage rs payload) ≡ fine
   unfolding imageLength
   parse-fine =
-      let l : headerLength (count (imageOf rs payload)) ≤ length (imageOf rs payload) = rw (count-is, written-length) (omega arith) in
-      entries-say (imageOf rs payload) (omega arith) (ap prologueVerdict prologue-back ∙ prologue-fine (regions rs) 0 (ok .few)) l
+      let l : headerLength (count (planImage rs payload)) ≤ length (planImage rs payload) = rw (count-is, written-length) (omega arith) in
+      entries-say (planImage rs payload) (omega arith) (ap prologueVerdict prologue-back ∙ prologue-fine (regions rs) 0 (ok .few)) l
       ∙ rw (written-length, directory-back) (entries-fine (imageLength rs) 0 (planDirectory rs) entries-in)
 
   packed : Packed (firstWord rs) (planDirectory rs) (firstWord rs + rowWords rs + planesWords rs)
   unfolding planDirectory
   packed = packed-append (packed-rows (firstWord rs) rs) (packed-planes (firstWord rs + rowWords rs) rs)
 
-  pub mend-fine : mendVerdict (imageOf rs payload) ≡ fine
+  pub mend-fine : mendVerdict (planImage rs payload) ≡ fine
   unfolding mendVerdict
   mend-fine = rw (parse-fine, count-is, directory-back) (packed-apart (regions rs) 0 [] (omega arith) packed Before.nil)

@@ -93,8 +93,8 @@ unfoldable pub planesBytes : List Row → List ℕ → List ℕ
 planesBytes [] b = []
 planesBytes (r ∷ rs) b = cond (flagged r) (planeBytes r b) [] ++ planesBytes rs (drop (8 * regionWords r) b)
 
-unfoldable pub imageOf : List Row → List ℕ → List ℕ
-imageOf rs payload =
+unfoldable pub planImage : List Row → List ℕ → List ℕ
+planImage rs payload =
     thrice (prologueBytes (regions rs) 0) ++ (thrice (entriesBytes (planDirectory rs)) ++ (payload ++ planesBytes rs payload))
 
 -- ---- the refusals
@@ -131,4 +131,4 @@ writeAs fine x = image x
 writeAs (refuse n d) x = refusedPlan n d
 
 unfoldable pub write : List Row → List ℕ → ℕ → Written
-write rs payload room = writeAs (planVerdict rs payload room) (imageOf rs payload)
+write rs payload room = writeAs (planVerdict rs payload room) (planImage rs payload)

@@ -5,7 +5,7 @@ use Prim.Native.Nat.{ℕ, _+_, _*_}
 use native.Mathlib.Omega.{arith}
 use lib.ListN.{length, length-append}
 use Rattle.paper.specs.Bytes.{thrice}
-use Rattle.paper.specs.Writer.{Row, rowEntries, planeEntries, rowWords, regions, planDirectory, entriesBytes, prologueBytes, planesBytes, imageOf, imageLength}
+use Rattle.paper.specs.Writer.{Row, rowEntries, planeEntries, rowWords, regions, planDirectory, entriesBytes, prologueBytes, planesBytes, planImage, imageLength}
 use Rattle.paper.proofs.BytesLaw.{length-thrice}
 use Rattle.laws.proofs.ImageLaw.{length-entriesBytes, length-directory, length-prologueBytes}
 use Rattle.laws.proofs.PlanPairs.{length-planes}
@@ -27,8 +27,8 @@ prologues-length n flags = length-thrice (prologueBytes n flags) 16 (length-prol
 pub copies-length : (rs : List Row) → length (thrice (entriesBytes (planDirectory rs))) ≡ 48 * regions rs
 copies-length rs = length-thrice (entriesBytes (planDirectory rs)) (16 * regions rs) (copy-length rs) ∙ omega arith
 
-pub image-length : (rs : List Row) (payload : List ℕ) → length payload ≡ 8 * rowWords rs → length (imageOf rs payload) ≡ imageLength rs
-unfolding imageOf imageLength
+pub image-length : (rs : List Row) (payload : List ℕ) → length payload ≡ 8 * rowWords rs → length (planImage rs payload) ≡ imageLength rs
+unfolding planImage imageLength
 image-length rs payload e =
     let c = thrice (entriesBytes (planDirectory rs)) in
     let q = planesBytes rs payload in

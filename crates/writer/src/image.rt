@@ -3,7 +3,7 @@ ghost use mathlib.Core.Path.{_≡_};
 ghost use Prim.Native.Nat.{ℕ, _+_, _*_, _≤_, _<_};
 ghost use lib.ListN.{length, getD};
 ghost use Rattle.paper.specs.Bytes.{thrice};
-ghost use Rattle.paper.specs.Writer.{prologueBytes, rowWords, planesWords, rowEntry, planeEntry, rowEntries, planeEntries, entriesBytes, planesBytes, imageOf};
+ghost use Rattle.paper.specs.Writer.{prologueBytes, rowWords, planesWords, rowEntry, planeEntry, rowEntries, planeEntries, entriesBytes, planesBytes, planImage};
 ghost use Rattle.paper.specs.Writer as paper;
 ghost use Rattle.writer.specs.Answers.{Answered};
 ghost use Rattle.writer.specs.Kept.{kindIn, rowOf, rowsOf, directoryBytes, Low, keptRows, Kept, Sized, sizesVerdict, checkedVerdict};
@@ -18,9 +18,9 @@ use super::plan::is_protected;
 use super::plan::kind_of;
 use super::plan::plane_words;
 use super::plan::words_of;
-use super::room::WriteResult;
-use super::room::judge;
-use super::room::row_words;
+use super::sizes::WriteResult;
+use super::sizes::check_sizes;
+use super::sizes::row_words;
 use ecc::ECC_KIND_BIT;
 use error::Refusal;
 use layout::FLAG_IS_ECC;
@@ -58,17 +58,17 @@ fn write_rows(rows: &[u64], regions: usize, payload: &[u8], out: &mut [u8]) -> W
     ensures { λ r. ⌜ Answered (sizesVerdict (rowsOf (now (rows .entry))) (now (payload .entry)) (length (now (out .entry))))
         (rowsOf (now (rows .entry))) (now (payload .entry)) (now (out .entry)) r (now (out .exit)) ⌝ }
 {
-    let judged = judge(rows, regions, payload, out.len());
-    let WriteResult::Written(_) = judged else {
-        return judged;
+    let answer = check_sizes(rows, regions, payload, out.len());
+    let WriteResult::Written(_) = answer else {
+        return answer;
     };
     put_image(out, rows, regions, payload);
-    judged
+    answer
 }
 
 fn put_image(out: &mut [u8], rows: &[u64], regions: usize, payload: &[u8]) -> usize
     requires { ⌜ Sized (now rows) regions (now payload) (now out) ⌝ }
-    ensures { λ r. ⌜ Put (now (out .entry)) 0 (imageOf (rowsOf (now (rows .entry))) (now (payload .entry))) r (now (out .exit)) ⌝ }
+    ensures { λ r. ⌜ Put (now (out .entry)) 0 (planImage (rowsOf (now (rows .entry))) (now (payload .entry))) r (now (out .exit)) ⌝ }
 {
     let directory = put_prologues(out, regions as u16, 0);
     let first_word = 6 + 6 * (regions as u32);

@@ -5,7 +5,7 @@ ghost use lib.ListN.{replicate};
 ghost use Rattle.paper.specs.Layout.{hasParity};
 ghost use Rattle.paper.specs.Writer.{flagged, planeWords};
 ghost use Rattle.writer.specs.Kept.{kindIn, flagsIn, wordsIn, rowOf};
-ghost use Rattle.writer.specs.Taken.{badRow, marked, withMark, withRow, packedRow, regionsOf, takeRow, takePlan};
+ghost use Rattle.writer.specs.Checking.{badRow, marked, withMark, withRow, packedRow, regionsOf, checkRow, planAfter};
 use error::Refusal;
 use layout::FLAG_ECC_PRESENT;
 use layout::FLAG_ENCRYPTED;
@@ -30,15 +30,15 @@ pub(crate) enum Checked {
 
 // What is kept of the rows: a bit for each kind that was seen, and after those 512 words the first 1024 rows, a number each.
 // So a kind is looked up at once, also in a plan of more rows than an image can have, and the rest of the writer needs no `&[Row]`.
-pub(crate) fn no_rows() -> [u64; 1536]
+pub(crate) fn empty_plan() -> [u64; 1536]
     ensures { λ r. ⌜ r ≡ replicate 1536 0 ⌝ }
 {
     [0u64; 1536]
 }
 
 // One more row, the i-th: its checks in their order, then its mark, and the row itself if it is among the first 1024.
-pub(crate) fn take_row(plan: &mut [u64; 1536], so_far: Checked, i: usize, row: Row) -> Checked
-    ensures { λ r. ⌜ (r ≡ takeRow (now (plan .entry)) «so_far» i row) × (now (plan .exit) ≡ takePlan (now (plan .entry)) «so_far» i row) ⌝ }
+pub(crate) fn check_row(plan: &mut [u64; 1536], so_far: Checked, i: usize, row: Row) -> Checked
+    ensures { λ r. ⌜ (r ≡ checkRow (now (plan .entry)) «so_far» i row) × (now (plan .exit) ≡ planAfter (now (plan .entry)) «so_far» i row) ⌝ }
 {
     let Checked::Fine(regions) = so_far else {
         return so_far;
@@ -53,7 +53,7 @@ pub(crate) fn take_row(plan: &mut [u64; 1536], so_far: Checked, i: usize, row: R
         return Checked::Refused(Refusal::DuplicateRegion { kind });
     }
     mark(plan, kind);
-    keep(plan, i, row);
+    store_row(plan, i, row);
     // A slice has fewer than 2^60 rows, so this never wraps.
     Checked::Fine(std::num::wrapping_add_usize(regions, regions_of(row.flags)))
 }
@@ -85,7 +85,7 @@ fn bit_of(kind: u16) -> u64
     1u64 << (kind % 64)
 }
 
-fn keep(plan: &mut [u64; 1536], i: usize, row: Row)
+fn store_row(plan: &mut [u64; 1536], i: usize, row: Row)
     ensures { λ _. ⌜ now (plan .exit) ≡ withRow (now (plan .entry)) i row ⌝ }
 {
     if i < MAX_REGIONS {

@@ -6,7 +6,7 @@ use denote.Ref.{now}
 use lib.ListN.{length}
 use mathlib.Core.List.{List, _++_}
 use Rattle.paper.specs.Bytes.{thrice}
-use Rattle.paper.specs.Writer.{Row, prologueBytes, planesBytes, imageOf, imageLength}
+use Rattle.paper.specs.Writer.{Row, prologueBytes, planesBytes, planImage, imageLength}
 use Rattle.paper.proofs.BytesLaw.{length-thrice}
 use Rattle.laws.proofs.PlanPairs.{length-planes}
 use Rattle.writer.specs.Kept.{rowsOf}
@@ -84,7 +84,7 @@ put-planes-requires c κs = let g = c .before .before .before .before .before .b
     (omega (arith, l3, s .room, s .counted, s .full, c .before .before .before .put-bytes .ensures .behind, c .before .before .before .put-bytes .ensures .long, c .before .before .before .before .before .before .before .put-directories .ensures .behind, c .before .before .before .before .before .before .before .put-directories .ensures .long, c .before .before .before .before .before .before .before .before .before .before .before .before .put-prologues .ensures .behind, c .before .before .before .before .before .before .before .before .before .before .before .before .put-prologues .ensures .long, prologues-length n 0, length-planes rs payload), s .full)
 
 returns : tie.Need-returns
-unfolding imageOf
+unfolding planImage
 returns c = let g = c .before .before .before .before .before .before .before .before .before .before .before .before .before .before .before .before .before .before .before .before in
     let s = g .pre in
     let rs : List Row = rowsOf (now (g .args .rows)) in
@@ -95,7 +95,7 @@ returns c = let g = c .before .before .before .before .before .before .before .b
     let a : List ℕ = thrice (prologueBytes n 0) in
     let d : List ℕ = thrice (copyOf n w rs) in
     let q : List ℕ = planesBytes rs payload in
-    let e : a ++ (d ++ (payload ++ q)) ≡ imageOf rs payload =
+    let e : a ++ (d ++ (payload ++ q)) ≡ planImage rs payload =
     ap₂ (λ (m : ℕ) (x : List ℕ). thrice (prologueBytes m 0) ++ (thrice x ++ (payload ++ q))) (s .counted) (copy-is n w rs (s .counted) (c .before .before .before .before .before .before .before .before .before .before .before .before .row-words .ensures .0)) in
     let g0 = begin o 0 (a ++ (d ++ (payload ++ q))) (omega (arith, s .room, ap length e, image-length rs payload (s .full))) in
     let g1 = go-on _ _ a (d ++ (payload ++ q)) g0 (c .before .before .before .before .before .before .before .before .before .before .before .before .before .before .before .put-prologues .ensures) in

@@ -1,4 +1,4 @@
--- `writer::room::planes_words` meets its contract. The invariant: the sum, and what the rows that are left add to it. Assumes nothing.
+-- `writer::sizes::planes_words` meets its contract. The invariant: the sum, and what the rows that are left add to it. Assumes nothing.
 use mathlib.Core.Path.{_≡_, sym, ap, _∙_, subst}
 use Prim.Native.Nat.{ℕ, _+_, _*_, _-_, _/_, _≤_, _<_}
 use native.Mathlib.Omega.{arith}
@@ -10,8 +10,8 @@ use mathlib.Core.Bool.{Bool, true, false, cond}
 use Rattle.paper.specs.Writer.{Row, flagged, planeWords, planesWords}
 use Rattle.writer.specs.Kept.{rowOf, rowsOf}
 use Rattle.writer.proofs.RowsLaw.{planes-next, rows-end}
-use Rattle.writer.proofs.room.planes_words.Statement.{statement}
-use Rattle.writer.proofs.room.planes_words.Tie as tie
+use Rattle.writer.proofs.sizes.planes_words.Statement.{statement}
+use Rattle.writer.proofs.sizes.planes_words.Tie as tie
 
 -- a row's plane has fewer words than the row could
 small-plane : (x w : ℕ) → x < 18446744073709551616 → w ≡ (x / 4294967296 + 7) / 8 → w ≤ 4294967295

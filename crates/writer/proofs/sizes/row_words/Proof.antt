@@ -1,4 +1,4 @@
--- `writer::room::row_words` meets its contract. The invariant: the sum, and what the rows that are left add to it. Assumes nothing.
+-- `writer::sizes::row_words` meets its contract. The invariant: the sum, and what the rows that are left add to it. Assumes nothing.
 use mathlib.Core.Path.{_≡_, ap}
 use Prim.Native.Nat.{_+_, _*_, _-_, _≤_}
 use native.Mathlib.Omega.{arith}
@@ -8,8 +8,8 @@ use lib.ListN.{length, drop}
 use Rattle.paper.specs.Writer.{rowWords}
 use Rattle.writer.specs.Kept.{rowsOf}
 use Rattle.writer.proofs.RowsLaw.{words-next, rows-end}
-use Rattle.writer.proofs.room.row_words.Statement.{statement}
-use Rattle.writer.proofs.room.row_words.Tie as tie
+use Rattle.writer.proofs.sizes.row_words.Statement.{statement}
+use Rattle.writer.proofs.sizes.row_words.Tie as tie
 
 abbrev Inv-loop : tie.InvT-loop
 Inv-loop rows sum₀ i₀ sum i = (i ≤ length rows) × (sum ≤ i * 4294967295) × (sum + rowWords (rowsOf (drop i rows)) ≡ rowWords (rowsOf rows))

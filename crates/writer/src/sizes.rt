@@ -4,7 +4,7 @@ ghost use Prim.Native.Nat.{_*_, _≤_};
 ghost use lib.ListN.{length};
 ghost use Rattle.paper.specs.Writer.{rowWords, planesWords, imageLength};
 ghost use Rattle.paper.specs.Writer as paper;
-ghost use Rattle.writer.specs.Answers.{asWritten, judged};
+ghost use Rattle.writer.specs.Answers.{asWritten, answerAs};
 ghost use Rattle.writer.specs.Kept.{rowsOf, sizesVerdict};
 use super::plan::is_protected;
 use super::plan::plane_words;
@@ -47,9 +47,9 @@ fn planes_words(rows: &[u64]) -> usize
 }
 
 // What is left to refuse once the rows are fine and few: the payload's length, the image's, the room for it.
-pub(crate) fn judge(rows: &[u64], regions: usize, payload: &[u8], room: usize) -> WriteResult
+pub(crate) fn check_sizes(rows: &[u64], regions: usize, payload: &[u8], room: usize) -> WriteResult
     requires { ⌜ (length (now rows) ≤ 1024) × (regions ≤ 1024) × (regions ≡ paper.regions (rowsOf (now rows))) ⌝ }
-    ensures { λ r. ⌜ asWritten r ≡ judged (sizesVerdict (rowsOf (now (rows .entry))) (now (payload .entry)) room) (imageLength (rowsOf (now (rows .entry)))) ⌝ }
+    ensures { λ r. ⌜ asWritten r ≡ answerAs (sizesVerdict (rowsOf (now (rows .entry))) (now (payload .entry)) room) (imageLength (rowsOf (now (rows .entry)))) ⌝ }
 {
     let words = row_words(rows);
     if payload.len() != 8 * words {

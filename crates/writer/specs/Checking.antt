@@ -32,21 +32,21 @@ abbrev pub regionsOf : ℕ → ℕ
 regionsOf flags = cond (hasParity flags) 2 1
 
 -- row i, where the rows before it are checked so far
-unfoldable pub takeRow : List ℕ → Checked → ℕ → Row → Checked
-takeRow plan (Refused e) i r = Refused e
-takeRow plan (Fine n) i r =
+unfoldable pub checkRow : List ℕ → Checked → ℕ → Row → Checked
+checkRow plan (Refused e) i r = Refused e
+checkRow plan (Fine n) i r =
     cond (badRow r) (Refused (BadPlan i))
     (cond (marked plan (r .kind)) (Refused (DuplicateRegion (r .kind)))
     (Fine ((n + regionsOf (r .flags)) % 2 ^ 64)))
 
-unfoldable pub takePlan : List ℕ → Checked → ℕ → Row → List ℕ
-takePlan plan (Refused e) i r = plan
-takePlan plan (Fine n) i r =
+unfoldable pub planAfter : List ℕ → Checked → ℕ → Row → List ℕ
+planAfter plan (Refused e) i r = plan
+planAfter plan (Fine n) i r =
     cond (badRow r) plan
     (cond (marked plan (r .kind)) plan
     (withRow (withMark plan (r .kind)) i r))
 
 -- rows i, i + 1, ..
-unfoldable pub takeRows : ℕ → List Row → Checked × List ℕ → Checked × List ℕ
-takeRows i [] a = a
-takeRows i (r ∷ rs) a = takeRows (suc i) rs (takeRow (a .1) (a .0) i r, takePlan (a .1) (a .0) i r)
+unfoldable pub checkRows : ℕ → List Row → Checked × List ℕ → Checked × List ℕ
+checkRows i [] a = a
+checkRows i (r ∷ rs) a = checkRows (suc i) rs (checkRow (a .1) (a .0) i r, planAfter (a .1) (a .0) i r)
