@@ -5,18 +5,18 @@ use Prim.Native.Nat.{ℕ, _+_, _*_}
 use native.Mathlib.Omega.{arith}
 use lib.ListN.{length, length-append}
 use Rattle.paper.specs.Bytes.{thrice}
-use Rattle.paper.specs.Writer.{Row, rowEntries, planeEntries, rowWords, regions, planDirectory, entriesBytes, prologueBytes, planesBytes, planImage, imageLength}
+use Rattle.paper.specs.Writer.{Row, rowEntries, planeEntries, rowWords, regions, firstWord, planDirectory, entriesBytes, prologueBytes, planesBytes, planImage, imageLength}
 use Rattle.paper.proofs.BytesLaw.{length-thrice}
 use Rattle.laws.proofs.ImageLaw.{length-entriesBytes, length-directory, length-prologueBytes}
 use Rattle.laws.proofs.PlanPairs.{length-planes}
 
--- one copy of the directory, of n regions, the rows' words together w
+-- one copy of the directory, the regions packed from word a on, the rows' words together w
 abbrev pub copyOf : ℕ → ℕ → List Row → List ℕ
-copyOf n w rs = entriesBytes (rowEntries (6 + 6 * n) rs ++ planeEntries (6 + 6 * n + w) rs)
+copyOf a w rs = entriesBytes (rowEntries a rs ++ planeEntries (a + w) rs)
 
-pub copy-is : (n w : ℕ) (rs : List Row) → n ≡ regions rs → w ≡ rowWords rs → copyOf n w rs ≡ entriesBytes (planDirectory rs)
+pub copy-is : (a w : ℕ) (rs : List Row) → a ≡ firstWord rs → w ≡ rowWords rs → copyOf a w rs ≡ entriesBytes (planDirectory rs)
 unfolding planDirectory
-copy-is n w rs e f = ap₂ (λ (m v : ℕ). copyOf m v rs) e f
+copy-is a w rs e f = ap₂ (λ (b v : ℕ). copyOf b v rs) e f
 
 pub copy-length : (rs : List Row) → length (entriesBytes (planDirectory rs)) ≡ 16 * regions rs
 copy-length rs = length-entriesBytes (planDirectory rs) ∙ ap (λ (m : ℕ). 16 * m) (length-directory rs)

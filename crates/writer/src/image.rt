@@ -13,6 +13,8 @@ use super::parts::put_entry;
 use super::parts::put_plane;
 use super::parts::put_prologue;
 use super::plan::Checked;
+use super::plan::MARK_WORDS;
+use super::plan::PLAN_WORDS;
 use super::plan::flags_of;
 use super::plan::is_protected;
 use super::plan::kind_of;
@@ -26,11 +28,13 @@ use error::Refusal;
 use layout::FLAG_IS_ECC;
 use layout::MAX_REGIONS;
 use layout::Region;
+use layout::WORD;
+use layout::header_length;
 use put::put_bytes;
 
 // What is refused, or the image written: of `count` rows whose checks said `checked`, kept in `plan` if they are few.
 pub(crate) fn write_plan(
-    plan: &[u64; 1536],
+    plan: &[u64; PLAN_WORDS],
     checked: Checked,
     count: usize,
     payload: &[u8],
@@ -48,8 +52,8 @@ pub(crate) fn write_plan(
         return WriteResult::Refused(Refusal::TooManyRegions { found: regions });
     }
     let kept = &plan[..];
-    let end = 512 + count;
-    write_rows(&kept[512..end], regions, payload, out)
+    let end = MARK_WORDS + count;
+    write_rows(&kept[MARK_WORDS..end], regions, payload, out)
 }
 
 // The same of rows that are fine and few.
@@ -70,8 +74,9 @@ fn put_image(out: &mut [u8], rows: &[u64], regions: usize, payload: &[u8]) -> us
     requires { ⌜ Sized (now rows) regions (now payload) (now out) ⌝ }
     ensures { λ r. ⌜ Put (now (out .entry)) 0 (planImage (rowsOf (now (rows .entry))) (now (payload .entry))) r (now (out .exit)) ⌝ }
 {
-    let directory = put_prologues(out, regions as u16, 0);
-    let first_word = 6 + 6 * (regions as u32);
+    let count = regions as u16;
+    let directory = put_prologues(out, count, 0);
+    let first_word = (header_length(count) / WORD) as u32;
     let plane_word = first_word + row_words(rows) as u32;
     let packed = put_directories(out, directory, rows, first_word, plane_word);
     let planes = put_bytes(out, packed, payload);
@@ -194,7 +199,7 @@ fn put_planes(out: &mut [u8], at: usize, rows: &[u64], payload: &[u8]) -> usize
         if is_protected(row) {
             next = put_plane(out, next, row, &payload[from..]);
         }
-        from += 8 * (words_of(row) as usize);
+        from += WORD * (words_of(row) as usize);
         i += 1;
     }
     next

@@ -12,8 +12,8 @@ mod sizes;
 use image::write_plan;
 use plan::Checked;
 pub use plan::Row;
-use plan::empty_plan;
 use plan::check_row;
+use plan::empty_plan;
 pub use sizes::WriteResult;
 
 // The image of the plan goes to the front of `out`, and the answer is its length; a refusal leaves every byte of `out` as it was.

@@ -13,6 +13,7 @@ use layout::BOM;
 use layout::FORMAT_VERSION;
 use layout::MAGIC;
 use layout::Region;
+use layout::WORD;
 use put::put_u16;
 use put::put_u32;
 use put::put_zeros;
@@ -57,7 +58,7 @@ fn put_checks(out: &mut [u8], at: usize, words: usize, b: &[u8]) -> usize
 {
     let mut w: usize = 0;
     while w < words {
-        out[at + w] = check_byte(u64_or_zero(b, 8 * w));
+        out[at + w] = check_byte(u64_or_zero(b, WORD * w));
         w += 1;
     }
     at + w

@@ -10,6 +10,9 @@ use super::plan::is_protected;
 use super::plan::plane_words;
 use super::plan::words_of;
 use error::Refusal;
+use layout::MAX_IMAGE_BYTES;
+use layout::WORD;
+use layout::header_length;
 
 pub enum WriteResult {
     // The image's length in bytes.
@@ -52,11 +55,11 @@ pub(crate) fn check_sizes(rows: &[u64], regions: usize, payload: &[u8], room: us
     ensures { λ r. ⌜ asWritten r ≡ answerAs (sizesVerdict (rowsOf (now (rows .entry))) (now (payload .entry)) room) (imageLength (rowsOf (now (rows .entry)))) ⌝ }
 {
     let words = row_words(rows);
-    if payload.len() != 8 * words {
+    if payload.len() != WORD * words {
         return WriteResult::Refused(Refusal::BadPlan { row: rows.len() });
     }
-    let length = 48 + 48 * regions + 8 * (words + planes_words(rows));
-    if length > 8_388_608 {
+    let length = header_length(regions as u16) + WORD * (words + planes_words(rows));
+    if length > MAX_IMAGE_BYTES {
         return WriteResult::Refused(Refusal::TooLarge);
     }
     if room < length {
