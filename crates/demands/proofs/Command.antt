@@ -7,7 +7,7 @@ use Prim.Native.Nat.{ℕ, _≤_}
 use lib.ListN.{length}
 use Rattle.paper.specs.Scan.{Report}
 use Rattle.paper.specs.Mend.{mended, mend}
-use Rattle.paper.specs.Programs.{imageOf, lineOf, storedLine, scrubImage, scrubLine}
+use Rattle.paper.specs.Programs.{imageOut, lineOf, storedLine, scrubImage, scrubLine}
 use Rattle.paper.proofs.ProgramsLaw.{image-short, line-short}
 use Rattle.demands.specs.Damage.{Damaged}
 
@@ -15,4 +15,4 @@ pub scrubbed : (w d : List ℕ) {n k : ℕ} {r : Option Report} {t : Bool} → D
     → (scrubImage d ≡ w) × (scrubLine d ≡ storedLine k)
 scrubbed w d damage short e =
     let l : length d ≤ 65536 = subst (λ (m : ℕ). m ≤ 65536) (sym (damage .size)) short in
-    (sym (image-short d l) ∙ ap imageOf e, sym (line-short d l) ∙ ap lineOf e)
+    (sym (image-short d l) ∙ ap imageOut e, sym (line-short d l) ∙ ap lineOf e)

@@ -16,7 +16,7 @@ use Rattle.paper.specs.Parse.{parse, accepted}
 use Rattle.paper.specs.Views.{seen, firstThat, ofKind, findRegion, bytesSpan, partOf}
 use Rattle.paper.specs.Parity.{Class, clean, decode}
 use Rattle.paper.specs.Scan.{Among, examined, isCorrected, isLost, total, classesAt, report, scan}
-use Rattle.paper.specs.Writer.{Row, flagged, rowEntries, planeEntries, rowWords, planesWords, planesBytes, planes, regions, firstWord, planDirectory, imageOf, imageLength, kindAmong, image, write}
+use Rattle.paper.specs.Writer.{Row, flagged, rowEntries, planeEntries, rowWords, planesWords, planesBytes, planes, regions, firstWord, planDirectory, planImage, imageLength, kindAmong, image, write}
 use Rattle.paper.proofs.BytesLaw.{at-left}
 use Rattle.paper.proofs.ParityLaw.{decode-clean}
 use Rattle.paper.proofs.ScanLaw.{length-part, at-part, length-classes, scan-all}
@@ -71,7 +71,7 @@ image-room rs = omega arith
 
 module _ (rs : List Row) (payload : List ℕ) (o : PlanOK rs payload) (b : Bytes payload) where
   w : List ℕ
-  w = imageOf rs payload
+  w = planImage rs payload
 
   order : InOrder w
   unfolding w
@@ -79,7 +79,7 @@ module _ (rs : List Row) (payload : List ℕ) (o : PlanOK rs payload) (b : Bytes
 
   fine : Accepted w
   unfolding w
-  fine = accepted-image (imageOf rs payload) (parse-fine rs payload o)
+  fine = accepted-image (planImage rs payload) (parse-fine rs payload o)
 
   parsed : parse w ≡ accepted (record { regions = regions rs; prologueDisagreed = false; directoryDisagreed = false })
   unfolding w
@@ -131,7 +131,7 @@ module _ (rs : List Row) (payload : List ℕ) (o : PlanOK rs payload) (b : Bytes
   unfolding report w
   scans = scan-all w ∙ rw (any-back rs payload o, length-classes w (examined w), all-clean isCorrected refl, all-clean isLost refl)
 
-  pub reads-back : ReadsBack rs payload (imageOf rs payload)
+  pub reads-back : ReadsBack rs payload (planImage rs payload)
   unfolding w
   reads-back = record { parses = parsed; finds = finds; hands = hands; protects = protects; scans = scans }
 

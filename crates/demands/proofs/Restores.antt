@@ -14,7 +14,7 @@ use Rattle.paper.specs.Refusals.{fine}
 use Rattle.paper.specs.Layout.{headerLength, directory, Entry}
 use Rattle.paper.specs.Parity.{Class, decode, wordAfter, checkAfter, fixedWord, fixedCheck}
 use Rattle.paper.specs.Scan.{visits, Among, examined, isLost, total, classesAt, report, scan, Report}
-use Rattle.paper.specs.Writer.{Row, flagged, rowEntries, planeEntry, planeEntries, planeWords, rowWords, planesBytes, planes, regions, firstWord, planDirectory, imageOf, image, write}
+use Rattle.paper.specs.Writer.{Row, flagged, rowEntries, planeEntry, planeEntries, planeWords, rowWords, planesBytes, planes, regions, firstWord, planDirectory, planImage, image, write}
 use Rattle.paper.specs.Mend.{mendVerdict, Mended, mendBytes, changed, wholeOf, mended, mend}
 use Rattle.paper.proofs.BytesLaw.{at-left}
 use Rattle.paper.proofs.ScanLaw.{anyOf, scan-all}
@@ -133,7 +133,7 @@ rows-back : (rs : List Row) → RowsOK rs → rowsOf (planDirectory rs) ≡ rs
 unfolding planDirectory
 rows-back rs o = rows-of-rows (firstWord rs) rs (planeEntries (firstWord rs + rowWords rs) rs) o (rows-of-planes (firstWord rs + rowWords rs) rs)
 
-same-plan : (rs rs′ : List Row) (payload payload′ : List ℕ) → PlanOK rs payload → PlanOK rs′ payload′ → imageOf rs payload ≡ imageOf rs′ payload′
+same-plan : (rs rs′ : List Row) (payload payload′ : List ℕ) → PlanOK rs payload → PlanOK rs′ payload′ → planImage rs payload ≡ planImage rs′ payload′
     → (rs ≡ rs′) × (payload ≡ payload′)
 same-plan rs rs′ payload payload′ o o′ e =
     let d : planDirectory rs ≡ planDirectory rs′ = sym (directory-back rs payload o) ∙ ap directory e ∙ directory-back rs′ payload′ o′ in

@@ -19,7 +19,7 @@ use Rattle.paper.specs.Layout.{voted, prologue, countIn, count, headerLength, d
 use Rattle.paper.specs.Parity.{columns, checkOf}
 use Rattle.paper.specs.Views.{firstThat}
 use Rattle.paper.specs.Scan.{planeOf, isProtected, visitOf, visitsOver, visits, pairsFrom, wordsOf, examinedIn, examined, Among, here, later}
-use Rattle.paper.specs.Writer.{Row, rowEntries, planeEntry, planeEntries, rowWords, planesWords, planes, regions, planDirectory, entryBytes, entriesBytes, prologueStart, prologueBytes, checks, planeBytes, planesBytes, imageOf, kindAmong, rowsVerdict, imageLength, planVerdict, write, image}
+use Rattle.paper.specs.Writer.{Row, rowEntries, planeEntry, planeEntries, rowWords, planesWords, planes, regions, planDirectory, entryBytes, entriesBytes, prologueStart, prologueBytes, checks, planeBytes, planesBytes, planImage, kindAmong, rowsVerdict, imageLength, planVerdict, write, image}
 use Rattle.paper.specs.Mend.{Elsewhere}
 use Rattle.demands.specs.Damage.{off, OneCopyOff, distance, bitsOff, Damaged}
 
@@ -32,8 +32,8 @@ unfoldable pub samplePayload : List ℕ
 samplePayload = 1 ∷ 2 ∷ 3 ∷ 4 ∷ 5 ∷ 6 ∷ 7 ∷ 8 ∷ 255 ∷ 0 ∷ 255 ∷ 0 ∷ 255 ∷ 0 ∷ 255 ∷ 0 ∷ []
 
 unfoldable pub sample : List ℕ
-unfolding sampleRows samplePayload imageOf prologueBytes prologueStart crc32 le serialR stepR sent bitsLow bit regions planes planDirectory rowEntries planeEntries planeEntry entriesBytes entryBytes planesBytes planeBytes checks checkOf columns syn read rowWords
-sample = imageOf sampleRows samplePayload
+unfolding sampleRows samplePayload planImage prologueBytes prologueStart crc32 le serialR stepR sent bitsLow bit regions planes planDirectory rowEntries planeEntries planeEntry entriesBytes entryBytes planesBytes planeBytes checks checkOf columns syn read rowWords
+sample = planImage sampleRows samplePayload
 
 pub sample-written : write sampleRows samplePayload 168 ≡ image sample
 unfolding sample write planVerdict rowsVerdict kindAmong imageLength planesWords

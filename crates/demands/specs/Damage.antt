@@ -13,7 +13,7 @@ use Rattle.paper.specs.Parse.{parse, accepted}
 use Rattle.paper.specs.Views.{findRegion, bytesSpan, partOf}
 use Rattle.paper.specs.Parity.{columns, syndrome, beyond, decode}
 use Rattle.paper.specs.Scan.{Among, examined, Report, scan}
-use Rattle.paper.specs.Writer.{Row, flagged, rowWords, planesWords, planes, regions, firstWord}
+use Rattle.paper.specs.Writer.{Row, flagged, regionWords, rowEntry, rowWords, planesWords, planes, regions, firstWord}
 use Rattle.paper.specs.Mend.{Elsewhere}
 
 -- word q of image w is protected, and byte c is its check byte
@@ -91,8 +91,7 @@ uncorrected (some r) = some (record { words = r .words; corrected = 0; uncorrect
 
 -- the entry of row r behind the rows before
 abbrev pub entryOfRow : List Row → List Row → Row → Entry
-entryOfRow rs before r =
-    record { kind = r .kind; flags = r .flags; offset = firstWord rs + rowWords before; words = r .words; covers = 0; spare = 0 }
+entryOfRow rs before r = rowEntry (firstWord rs + rowWords before) r
 
 pub record ReadsBack (rs : List Row) (payload w : List ℕ) : Type 0 where
   pub parses : parse w ≡ accepted (record { regions = regions rs; prologueDisagreed = false; directoryDisagreed = false })
@@ -100,9 +99,9 @@ pub record ReadsBack (rs : List Row) (payload w : List ℕ) : Type 0 where
   pub finds : (before : List Row) (r : Row) (behind : List Row) → rs ≡ before ++ (r ∷ behind)
       → findRegion (regions rs) w (r .kind) ≡ some (entryOfRow rs before r)
   pub hands : (before : List Row) (r : Row) (behind : List Row) → rs ≡ before ++ (r ∷ behind)
-      → partOf w (bytesSpan (length w) (entryOfRow rs before r)) ≡ part payload (8 * rowWords before) (8 * (rowWords before + r .words))
+      → partOf w (bytesSpan (length w) (entryOfRow rs before r)) ≡ part payload (8 * rowWords before) (8 * (rowWords before + regionWords r))
   -- each word of a row flagged 2 is protected, with a check byte of its own in the row's plane
-  pub protects : (before : List Row) (r : Row) (behind : List Row) → rs ≡ before ++ (r ∷ behind) → flagged r ≡ true → (k : ℕ) → k < r .words
+  pub protects : (before : List Row) (r : Row) (behind : List Row) → rs ≡ before ++ (r ∷ behind) → flagged r ≡ true → (k : ℕ) → k < regionWords r
       → Protected w (firstWord rs + rowWords before + k) (8 * (firstWord rs + rowWords rs + planesWords before) + k)
   -- the scan is clean; it says "nothing" exactly if no row is flagged 2
   pub scans : scan w ≡ given (ltb 0 (planes rs)) (record { words = length (examined w); corrected = 0; uncorrectable = 0 })

@@ -2,15 +2,15 @@
 use mathlib.Core.List.{List, [], _∷_}
 use Prim.Native.Nat.{ℕ}
 use Rattle.paper.specs.Writer as paper
-use Rattle.writer.specs.Answers.{Answer, wrote, refused, answerOf}
+use Rattle.writer.specs.Answers.{WriteAnswer, wrote, refused, answerOf}
 
 -- 0, or the refusal's number
-abbrev pub numberIn : Answer → ℕ
+abbrev pub numberIn : WriteAnswer → ℕ
 numberIn (wrote n) = 0
 numberIn (refused n d) = n
 
 -- the image's length, or the refusal's detail
-abbrev pub answerIn : Answer → List ℕ
+abbrev pub answerIn : WriteAnswer → List ℕ
 answerIn (wrote n) = n ∷ []
 answerIn (refused n d) = d ∷ []
 

@@ -14,7 +14,7 @@ use Rattle.paper.specs.Layout.{voted, prologue, countIn, count, headerLength, d
 use Rattle.paper.specs.Parse.{prologueVerdict, parseVerdict}
 use Rattle.paper.specs.Scan.{visits, Among, examinedIn, examined}
 use Rattle.paper.specs.Mend.{mendVerdict}
-use Rattle.paper.specs.Writer.{Row, flagged, planeWords, rowEntries, planeEntry, planeEntries, rowWords, planesWords, planes, regions, firstWord, planDirectory, entryBytes, entriesBytes, prologueStart, prologueBytes, checks, planeBytes, planesBytes, imageOf, imageLength}
+use Rattle.paper.specs.Writer.{Row, flagged, planeWords, rowEntry, rowEntries, planeEntry, planeEntries, rowWords, planesWords, planes, regions, firstWord, planDirectory, entryBytes, entriesBytes, prologueStart, prologueBytes, checks, planeBytes, planesBytes, planImage, imageLength}
 use Rattle.paper.proofs.BytesLaw.{read-le, at-left, at-right, length-thrice}
 use Rattle.paper.proofs.ParseLaw.{good-prologue, entries-say}
 use Rattle.paper.proofs.ScanLaw.{anyOf}
@@ -63,7 +63,7 @@ entries-back es nil = refl
 entries-back es (cons {e = e} {es = fs} f g) =
     ap₂ _∷_ (entry-back e (entriesBytes fs) f) (ap (entries (length fs)) (drop-entry e (entriesBytes fs)) ∙ entries-back fs g)
 
-length-entry : (e : Entry) → length (entryBytes e) ≡ 16
+pub length-entry : (e : Entry) → length (entryBytes e) ≡ 16
 unfolding entryBytes le
 length-entry e = refl
 
@@ -107,7 +107,7 @@ fit-rows : (a : ℕ) (rs : List Row) → RowsOK rs → a + rowWords rs < 4294967
 unfolding rowEntries rowWords
 fit-rows a rs RowsOK.nil h = nil
 fit-rows a rs (RowsOK.cons {r = r} {rs = ss} k f n o) h =
-    cons {e = record { kind = r .kind; flags = r .flags; offset = a; words = r .words; covers = 0; spare = 0 }}
+    cons {e = rowEntry a r}
     (record { kind = omega arith; flags = omega arith; offset = omega arith; words = omega arith; covers = lit< tt; spare = lit< tt })
     (fit-rows (a + r .words) ss o (omega arith))
 
@@ -129,48 +129,48 @@ unfolding planDirectory imageLength
 fit-directory rs o h =
     fit-append (fit-rows (firstWord rs) rs o (omega arith)) (fit-planes (firstWord rs + rowWords rs) rs o (omega arith))
 
--- ---- the prologue
+-- ---- the prologue, of n regions
 
-length-start : (n : ℕ) → length (prologueStart n) ≡ 12
+pub length-prologueStart : (n flags : ℕ) → length (prologueStart n flags) ≡ 12
 unfolding prologueStart le
-length-start n = refl
+length-prologueStart n flags = refl
 
-pub length-prologueBytes : (n : ℕ) → length (prologueBytes n) ≡ 16
+pub length-prologueBytes : (n flags : ℕ) → length (prologueBytes n flags) ≡ 16
 unfolding prologueBytes prologueStart le
-length-prologueBytes n = refl
+length-prologueBytes n flags = refl
 
-count-back : (n : ℕ) → n < 65536 → countIn (prologueBytes n) ≡ n
+count-back : (n flags : ℕ) → n < 65536 → countIn (prologueBytes n flags) ≡ n
 unfolding countIn prologueBytes prologueStart le read
-count-back n h = read-le 2 n [] h
+count-back n flags h = read-le 2 n [] h
 
 crc-small : (bs : List ℕ) → crc32 bs < 4294967296
 unfolding crc32
 crc-small bs = omega (arith, sub-le allOnes (serialR allOnes (sent bs)))
 
-take-start : (n : ℕ) → take 12 (prologueBytes n) ≡ prologueStart n
+take-start : (n flags : ℕ) → take 12 (prologueBytes n flags) ≡ prologueStart n flags
 unfolding prologueBytes prologueStart le
-take-start n = refl
+take-start n flags = refl
 
-read-crc : (n : ℕ) → read 4 (prologueBytes n) 12 ≡ crc32 (prologueStart n)
+read-crc : (n flags : ℕ) → read 4 (prologueBytes n flags) 12 ≡ crc32 (prologueStart n flags)
 unfolding prologueBytes prologueStart le read
-read-crc n = read-le 4 (crc32 (prologueStart n)) [] (crc-small (prologueStart n))
+read-crc n flags = read-le 4 (crc32 (prologueStart n flags)) [] (crc-small (prologueStart n flags))
 
-read-magic : (n : ℕ) → read 4 (prologueBytes n) 0 ≡ 0x4B415558
+read-magic : (n flags : ℕ) → read 4 (prologueBytes n flags) 0 ≡ 0x4B415558
 unfolding prologueBytes prologueStart le read
-read-magic n = refl
+read-magic n flags = refl
 
-read-marker : (n : ℕ) → read 2 (prologueBytes n) 4 ≡ 0xFEFF
+read-marker : (n flags : ℕ) → read 2 (prologueBytes n flags) 4 ≡ 0xFEFF
 unfolding prologueBytes prologueStart le read
-read-marker n = refl
+read-marker n flags = refl
 
-read-version : (n : ℕ) → read 2 (prologueBytes n) 6 ≡ 2
+read-version : (n flags : ℕ) → read 2 (prologueBytes n flags) 6 ≡ 2
 unfolding prologueBytes prologueStart le read
-read-version n = refl
+read-version n flags = refl
 
-prologue-fine : (n : ℕ) → n ≤ 1024 → prologueVerdict (prologueBytes n) ≡ fine
-prologue-fine n h =
-    good-prologue (prologueBytes n) (read-magic n) (read-marker n) (read-version n) (read-crc n ∙ ap crc32 (sym (take-start n)))
-    (subst (λ (m : ℕ). m ≤ 1024) (sym (count-back n (omega arith))) h)
+prologue-fine : (n flags : ℕ) → n ≤ 1024 → prologueVerdict (prologueBytes n flags) ≡ fine
+prologue-fine n flags h =
+    good-prologue (prologueBytes n flags) (read-magic n flags) (read-marker n flags) (read-version n flags) (read-crc n flags ∙ ap crc32 (sym (take-start n flags)))
+    (subst (λ (m : ℕ). m ≤ 1024) (sym (count-back n flags (omega arith))) h)
 
 -- ---- bytes
 
@@ -211,16 +211,17 @@ unfolding entriesBytes
 bytes-entries [] = bytes-nil
 bytes-entries (e ∷ es) = bytes-append (entryBytes e) (entriesBytes es) (bytes-entry e) (bytes-entries es)
 
-bytes-start : (n : ℕ) → Bytes (prologueStart n)
+bytes-start : (n flags : ℕ) → Bytes (prologueStart n flags)
 unfolding prologueStart
-bytes-start n =
-    bytes-append (le 4 0x4B415558) (le 2 0xFEFF ++ (le 2 2 ++ (le 2 n ++ le 2 0))) (bytes-le 4 0x4B415558)
-    (bytes-append (le 2 0xFEFF) (le 2 2 ++ (le 2 n ++ le 2 0)) (bytes-le 2 0xFEFF)
-    (bytes-append (le 2 2) (le 2 n ++ le 2 0) (bytes-le 2 2) (bytes-append (le 2 n) (le 2 0) (bytes-le 2 n) (bytes-le 2 0))))
+bytes-start n flags =
+    bytes-append (le 4 0x4B415558) (le 2 0xFEFF ++ (le 2 2 ++ (le 2 n ++ le 2 flags))) (bytes-le 4 0x4B415558)
+    (bytes-append (le 2 0xFEFF) (le 2 2 ++ (le 2 n ++ le 2 flags)) (bytes-le 2 0xFEFF)
+    (bytes-append (le 2 2) (le 2 n ++ le 2 flags) (bytes-le 2 2) (bytes-append (le 2 n) (le 2 flags) (bytes-le 2 n) (bytes-le 2 flags))))
 
-bytes-prologue : (n : ℕ) → Bytes (prologueBytes n)
+bytes-prologue : (n flags : ℕ) → Bytes (prologueBytes n flags)
 unfolding prologueBytes
-bytes-prologue n = bytes-append (prologueStart n) (le 4 (crc32 (prologueStart n))) (bytes-start n) (bytes-le 4 (crc32 (prologueStart n)))
+bytes-prologue n flags =
+    bytes-append (prologueStart n flags) (le 4 (crc32 (prologueStart n flags))) (bytes-start n flags) (bytes-le 4 (crc32 (prologueStart n flags)))
 
 -- ---- the image
 
@@ -229,7 +230,7 @@ module _ (rs : List Row) (payload : List ℕ) (ok : PlanOK rs payload) where
   n = regions rs
 
   P : List ℕ
-  P = prologueBytes (regions rs)
+  P = prologueBytes (regions rs) 0
 
   D : List ℕ
   D = entriesBytes (planDirectory rs)
@@ -241,23 +242,23 @@ module _ (rs : List Row) (payload : List ℕ) (ok : PlanOK rs payload) where
   unfolding D
   length-D = length-entriesBytes (planDirectory rs) ∙ ap (λ (m : ℕ). 16 * m) (length-directory rs)
 
-  split : imageOf rs payload ≡ (thrice P ++ thrice D) ++ B
-  unfolding imageOf P D B
+  split : planImage rs payload ≡ (thrice P ++ thrice D) ++ B
+  unfolding planImage P D B
   split = sym (append-assoc (thrice P) (thrice D) B)
 
   length-head : length (thrice P ++ thrice D) ≡ headerLength (regions rs)
   unfolding P
   length-head =
-      omega (arith, length-append (thrice P) (thrice D), length-thrice P 16 (length-prologueBytes (regions rs)), length-thrice D (16 * regions rs) length-D)
+      omega (arith, length-append (thrice P) (thrice D), length-thrice P 16 (length-prologueBytes (regions rs) 0), length-thrice D (16 * regions rs) length-D)
 
-  in-head : (i : ℕ) → i < headerLength (regions rs) → at (imageOf rs payload) i ≡ at (thrice P ++ thrice D) i
+  in-head : (i : ℕ) → i < headerLength (regions rs) → at (planImage rs payload) i ≡ at (thrice P ++ thrice D) i
   in-head i h = ap (λ (l : List ℕ). at l i) split ∙ at-left (thrice P ++ thrice D) B (headerLength (regions rs)) i length-head h
 
-  pub in-body : (j : ℕ) → at (imageOf rs payload) (headerLength (regions rs) + j) ≡ at (payload ++ planesBytes rs payload) j
+  pub in-body : (j : ℕ) → at (planImage rs payload) (headerLength (regions rs) + j) ≡ at (payload ++ planesBytes rs payload) j
   unfolding B
   in-body j = ap (λ (l : List ℕ). at l (headerLength (regions rs) + j)) split ∙ at-right (thrice P ++ thrice D) B (headerLength (regions rs)) j length-head
 
-  pub written-length : length (imageOf rs payload) ≡ imageLength rs
+  pub written-length : length (planImage rs payload) ≡ imageLength rs
   unfolding B imageLength
   written-length =
       omega (
@@ -270,82 +271,82 @@ module _ (rs : List Row) (payload : List ℕ) (ok : PlanOK rs payload) where
         ok .full,
       )
 
-  pub prologue-back : prologue (imageOf rs payload) ≡ prologueBytes (regions rs)
+  pub prologue-back : prologue (planImage rs payload) ≡ prologueBytes (regions rs) 0
   unfolding prologue P
   prologue-back =
-      voted-copies (imageOf rs payload) 0 16 P (length-prologueBytes (regions rs))
-      (copies-first (imageOf rs payload) P D (16 * regions rs) (length-prologueBytes (regions rs)) length-D (λ i h. in-head i (omega arith)))
+      voted-copies (planImage rs payload) 0 16 P (length-prologueBytes (regions rs) 0)
+      (copies-first (planImage rs payload) P D (16 * regions rs) (length-prologueBytes (regions rs) 0) length-D (λ i h. in-head i (omega arith)))
 
-  pub count-is : count (imageOf rs payload) ≡ regions rs
+  pub count-is : count (planImage rs payload) ≡ regions rs
   unfolding count
-  count-is = ap countIn prologue-back ∙ count-back (regions rs) (omega (arith, ok .few))
+  count-is = ap countIn prologue-back ∙ count-back (regions rs) 0 (omega (arith, ok .few))
 
-  pub directoryBytes-back : directoryBytes (imageOf rs payload) ≡ entriesBytes (planDirectory rs)
+  pub directoryBytes-back : directoryBytes (planImage rs payload) ≡ entriesBytes (planDirectory rs)
   unfolding directoryBytes directoryBytesOf D P
   directoryBytes-back =
-      ap (λ (m : ℕ). voted 48 (16 * m) (imageOf rs payload)) count-is
-      ∙ voted-copies (imageOf rs payload) 48 (16 * regions rs) D length-D
-      (copies-second (imageOf rs payload) P D (16 * regions rs) (length-prologueBytes (regions rs)) length-D (λ i h. in-head i (omega arith)))
+      ap (λ (m : ℕ). voted 48 (16 * m) (planImage rs payload)) count-is
+      ∙ voted-copies (planImage rs payload) 48 (16 * regions rs) D length-D
+      (copies-second (planImage rs payload) P D (16 * regions rs) (length-prologueBytes (regions rs) 0) length-D (λ i h. in-head i (omega arith)))
 
-  pub directory-back : directory (imageOf rs payload) ≡ planDirectory rs
+  pub directory-back : directory (planImage rs payload) ≡ planDirectory rs
   unfolding directory directoryOf directoryBytes
   directory-back =
       ap₂ entries (count-is ∙ sym (length-directory rs)) directoryBytes-back
       ∙ entries-back (planDirectory rs) (fit-directory rs (ok .rows) (ok .small))
 
-  header-back : header (imageOf rs payload) ≡ thrice P ++ thrice D
+  header-back : header (planImage rs payload) ≡ thrice P ++ thrice D
   unfolding header P D
   header-back = ap₂ (λ (p d : List ℕ). thrice p ++ thrice d) prologue-back directoryBytes-back
 
   entries-in : EntriesOK (imageLength rs) (planDirectory rs)
   entries-in = directory-ok (imageLength rs) rs (ok .rows) (omega arith)
 
-  visits-back : visits (imageOf rs payload) ≡ visitsPlan rs (firstWord rs) (firstWord rs + rowWords rs)
+  visits-back : visits (planImage rs payload) ≡ visitsPlan rs (firstWord rs) (firstWord rs + rowWords rs)
   unfolding visits planDirectory
   visits-back =
       rw (written-length, directory-back) (plan-visits (imageLength rs) (firstWord rs) (firstWord rs + rowWords rs) rs (ok .rows) entries-in)
 
-  pub examined-back : examined (imageOf rs payload) ≡ pairsPlan rs (firstWord rs) (firstWord rs + rowWords rs)
+  pub examined-back : examined (planImage rs payload) ≡ pairsPlan rs (firstWord rs) (firstWord rs + rowWords rs)
   unfolding examined
   examined-back = ap examinedIn visits-back ∙ plan-pairs rs (firstWord rs) (firstWord rs + rowWords rs)
 
-  pub any-back : anyOf (visits (imageOf rs payload)) ≡ ltb 0 (planes rs)
+  pub any-back : anyOf (visits (planImage rs payload)) ≡ ltb 0 (planes rs)
   any-back = ap anyOf visits-back ∙ plan-any rs (firstWord rs) (firstWord rs + rowWords rs)
 
-  bytes-image : Bytes payload → Bytes (imageOf rs payload)
-  unfolding imageOf
+  bytes-image : Bytes payload → Bytes (planImage rs payload)
+  unfolding planImage
   bytes-image b =
-      bytes-append (thrice (prologueBytes (regions rs))) (thrice (entriesBytes (planDirectory rs)) ++ (payload ++ planesBytes rs payload))
-      (bytes-thrice (prologueBytes (regions rs)) (bytes-prologue (regions rs)))
+      bytes-append (thrice (prologueBytes (regions rs) 0)) (thrice (entriesBytes (planDirectory rs)) ++ (payload ++ planesBytes rs payload))
+      (bytes-thrice (prologueBytes (regions rs) 0) (bytes-prologue (regions rs) 0))
       (bytes-append (thrice (entriesBytes (planDirectory rs))) (payload ++ planesBytes rs payload)
       (bytes-thrice (entriesBytes (planDirectory rs)) (bytes-entries (planDirectory rs)))
       (bytes-append payload (planesBytes rs payload) b (bytes-planes rs payload)))
 
-  pub in-order : Bytes payload → InOrder (imageOf rs payload)
+  pub in-order : Bytes payload → InOrder (planImage rs payload)
   in-order b =
       record {
         bytes = bytes-image b;
         copies = λ p h. in-head p (subst (λ (m : ℕ). p < headerLength m) count-is h) ∙ ap (λ (l : List ℕ). at l p) (sym header-back);
         checks = λ q c i.
-            checked (imageOf rs payload) rs (firstWord rs) (firstWord rs + rowWords rs) payload
+            checked (planImage rs payload) rs (firstWord rs) (firstWord rs + rowWords rs) payload
             (λ j h. let e : 8 * firstWord rs + j ≡ headerLength (regions rs) + j = omega arith in
-            ap (at (imageOf rs payload)) e ∙ in-body j ∙ at-left payload (planesBytes rs payload) (8 * rowWords rs) j (ok .full) h)
+            ap (at (planImage rs payload)) e ∙ in-body j ∙ at-left payload (planesBytes rs payload) (8 * rowWords rs) j (ok .full) h)
             (λ j h. let e : 8 * (firstWord rs + rowWords rs) + j ≡ headerLength (regions rs) + (8 * rowWords rs + j) = omega arith in
-            ap (at (imageOf rs payload)) e ∙ in-body (8 * rowWords rs + j) ∙ at-right payload (planesBytes rs payload) (8 * rowWords rs) j (ok .full))
+            ap (at (planImage rs payload)) e ∙ in-body (8 * rowWords rs + j) ∙ at-right payload (planesBytes rs payload) (8 * rowWords rs) j (ok .full))
             q c (subst (Among q c) examined-back i);
       }
 
-  pub parse-fine : parseVerdict (imageOf rs payload) ≡ fine
+  pub parse-fine : parseVerdict (planImage rs payload) ≡ fine
   unfolding imageLength
   parse-fine =
-      let l : headerLength (count (imageOf rs payload)) ≤ length (imageOf rs payload) = rw (count-is, written-length) (omega arith) in
-      entries-say (imageOf rs payload) (omega arith) (ap prologueVerdict prologue-back ∙ prologue-fine (regions rs) (ok .few)) l
+      let l : headerLength (count (planImage rs payload)) ≤ length (planImage rs payload) = rw (count-is, written-length) (omega arith) in
+      entries-say (planImage rs payload) (omega arith) (ap prologueVerdict prologue-back ∙ prologue-fine (regions rs) 0 (ok .few)) l
       ∙ rw (written-length, directory-back) (entries-fine (imageLength rs) 0 (planDirectory rs) entries-in)
 
   packed : Packed (firstWord rs) (planDirectory rs) (firstWord rs + rowWords rs + planesWords rs)
   unfolding planDirectory
   packed = packed-append (packed-rows (firstWord rs) rs) (packed-planes (firstWord rs + rowWords rs) rs)
 
-  pub mend-fine : mendVerdict (imageOf rs payload) ≡ fine
+  pub mend-fine : mendVerdict (planImage rs payload) ≡ fine
   unfolding mendVerdict
   mend-fine = rw (parse-fine, count-is, directory-back) (packed-apart (regions rs) 0 [] (omega arith) packed Before.nil)

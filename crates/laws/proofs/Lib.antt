@@ -15,4 +15,3 @@ pub mod PlanLaw
 pub mod PlanPairs
 pub mod ImageLaw
 pub mod AppendLaw
-pub mod PutLaw

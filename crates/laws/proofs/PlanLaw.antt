@@ -12,7 +12,7 @@ use Rattle.paper.specs.Refusals.{Verdict, fine, refuse, _then_, refuseIf}
 use Rattle.paper.specs.Layout.{Entry, headerLength}
 use Rattle.paper.specs.Parse.{among}
 use Rattle.paper.specs.Mend.{meets, meetsAny, inHeader, apartVerdict}
-use Rattle.paper.specs.Writer.{Row, flagged, planeWords, rowEntries, planeEntry, planeEntries, rowWords, planesWords, regions, firstWord, planDirectory, imageOf, kindAmong, rowsVerdict, imageLength, planVerdict, image, writeAs, write}
+use Rattle.paper.specs.Writer.{Row, flagged, planeWords, rowEntry, rowEntries, planeEntry, planeEntries, rowWords, planesWords, regions, firstWord, planDirectory, planImage, kindAmong, rowsVerdict, imageLength, planVerdict, image, writeAs, write}
 use Rattle.laws.proofs.VerdictLaw.{true-false, passed, passed-both, passes, or-left, or-right, or-none, or-true, and-false}
 use Rattle.laws.proofs.EntriesLaw.{EntriesOK, among-append}
 
@@ -67,13 +67,13 @@ plan-ok rs payload room e =
 
 pub record Wrote (rs : List Row) (payload w : List ℕ) : Type 0 where
   pub plan : PlanOK rs payload
-  pub is : imageOf rs payload ≡ w
+  pub is : planImage rs payload ≡ w
 
 pub wrote : (rs : List Row) (payload : List ℕ) (room : ℕ) (w : List ℕ) → write rs payload room ≡ image w → Wrote rs payload w
 unfolding write
 wrote rs payload room w h = go (planVerdict rs payload room) refl h
   where
-    go : (v : Verdict) → planVerdict rs payload room ≡ v → writeAs v (imageOf rs payload) ≡ image w → Wrote rs payload w
+    go : (v : Verdict) → planVerdict rs payload room ≡ v → writeAs v (planImage rs payload) ≡ image w → Wrote rs payload w
     go fine e g = record { plan = plan-ok rs payload room e; is = cc }
     go (refuse n d) e g = let z : _≡_ {A = ℕ} 0 1 = cc in absurd (omega arith)
 
@@ -157,7 +157,7 @@ rows-entries-ok : (len a : ℕ) (rs : List Row) (fs : List Entry) → RowsOK rs 
 unfolding rowEntries rowWords
 rows-entries-ok len a rs fs RowsOK.nil h z o = o
 rows-entries-ok len a rs fs (RowsOK.cons {r = r} {rs = ss} k f n s) h z o =
-    EntriesOK.cons {e = record { kind = r .kind; flags = r .flags; offset = a; words = r .words; covers = 0; spare = 0 }} {es = rowEntries (a + r .words) ss ++ fs}
+    EntriesOK.cons {e = rowEntry a r} {es = rowEntries (a + r .words) ss ++ fs}
     (omega arith)
     (among-append (r .kind) (rowEntries (a + r .words) ss) fs (among-rows (r .kind) (a + r .words) ss n) (z (r .kind) k))
     (rows-entries-ok len (a + r .words) ss fs s (omega arith) z o)

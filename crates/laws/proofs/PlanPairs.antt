@@ -18,7 +18,7 @@ use Rattle.paper.specs.Layout.{Entry, isPlane}
 use Rattle.paper.specs.Parity.{checkOf}
 use Rattle.paper.specs.Views.{firstThat, planeFor}
 use Rattle.paper.specs.Scan.{planeOf, Visit, visitWith, visitOf, visitsOver, Pair, pairsFrom, wordsOf, examinedIn, isProtected, Among}
-use Rattle.paper.specs.Writer.{Row, flagged, planeWords, rowEntries, planeEntry, planeEntries, rowWords, planesWords, planes, kindAmong, checks, planeBytes, planesBytes}
+use Rattle.paper.specs.Writer.{Row, flagged, planeWords, rowEntry, rowEntries, planeEntry, planeEntries, rowWords, planesWords, planes, kindAmong, checks, planeBytes, planesBytes}
 use Rattle.paper.proofs.BytesLaw.{read-ext, read-drop, at-left, at-right}
 use Rattle.paper.proofs.ScanLaw.{anyOf, examined-append, visits-append}
 use Rattle.laws.proofs.VerdictLaw.{true-false, or-left, or-right}
@@ -27,9 +27,6 @@ use Rattle.laws.proofs.PairLaw.{among-append, among-left, among-right, 
 use Rattle.laws.proofs.PlanLaw.{RowsOK}
 
 -- ---- as the plan has them: rows from word a on, planes from word b on
-
-abbrev rowEntry : ℕ → Row → Entry
-rowEntry a r = record { kind = r .kind; flags = r .flags; offset = a; words = r .words; covers = 0; spare = 0 }
 
 unfoldable pub visitsPlan : List Row → ℕ → ℕ → List Visit
 visitsPlan [] a b = []

@@ -1,7 +1,7 @@
-// The container's constants, a directory entry as a value, and two sizes.
+// The container's constants and limits, a directory entry as a value, and three sizes.
 ghost use mathlib.Core.Path.{_≡_};
 ghost use Prim.Native.Nat.{_*_};
-ghost use Rattle.paper.specs.Layout.{isEncrypted, isPlane, hasParity, wordsFor, headerBytes};
+ghost use Rattle.paper.specs.Layout.{isEncrypted, isPlane, hasParity, headerLength, wordsFor, headerBytes};
 ghost use Rattle.layout.specs.Sizes.{asPaper};
 
 // Bytes of a word. Every region and record is a whole number of words.
@@ -25,6 +25,12 @@ pub const COPIES: usize = 3;
 pub const DIRECTORY_OFFSET: usize = PROLOGUE_BYTES * COPIES;
 
 pub const MAX_REGIONS: usize = 1024;
+
+// The longest image that the writer makes.
+pub const MAX_IMAGE_BYTES: usize = 8_388_608;
+
+// The longest input that the programs look at.
+pub const MAX_INPUT_BYTES: usize = 65_536;
 
 pub const FLAG_ENCRYPTED: u16 = 1 << 0;
 
@@ -102,4 +108,11 @@ pub fn header_bytes(region_count: usize) -> Size
         return Size::Nothing;
     }
     Size::Of(region_count * DIR_ENTRY_BYTES * COPIES + DIRECTORY_OFFSET)
+}
+
+// The same of a count that a prologue can hold: 64 bits hold every such length.
+pub fn header_length(region_count: u16) -> usize
+    ensures { λ r. ⌜ r ≡ headerLength «region_count» ⌝ }
+{
+    region_count as usize * DIR_ENTRY_BYTES * COPIES + DIRECTORY_OFFSET
 }

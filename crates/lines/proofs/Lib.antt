@@ -1,3 +1,2 @@
-pub mod DecimalLaw
 pub mod TextLaw
 pub mod OneAnswer

@@ -9,7 +9,7 @@ use lib.Seq.{sets}
 use Rattle.paper.specs.Mend.{mend}
 use Rattle.paper.proofs.ProgramsLaw.{too-long, looked-at}
 use Rattle.repair.specs.Answers.{leftBy}
-use Rattle.laws.specs.Put.{Put}
+use Rattle.put.specs.Put.{Put}
 use Rattle.lines.specs.Left.{leftIn}
 
 pub line-put : (o a b : List ℕ) {r : ℕ} {o′ : List ℕ} → Put o 0 a r o′ → a ≡ b → (r ≡ length b) × (o′ ≡ sets o 0 b)

@@ -1,5 +1,5 @@
 // What the programs print, made in a buffer of the caller's. (FORMAT 11)
-mod put;
+mod line;
 
 ghost use mathlib.Core.Path.{_≡_};
 ghost use lib.ListN.{length, take};
@@ -7,16 +7,14 @@ ghost use lib.Seq.{sets};
 ghost use Rattle.io.specs.Counts.{Counts};
 ghost use Rattle.paper.specs.Programs.{reportText, scrubImage, scrubLine};
 ghost use Rattle.lines.specs.Left.{leftIn};
-use put::put_ecc;
-use put::put_refused;
-use put::put_regions;
-use put::put_stored;
-use put::put_too_long;
+use layout::MAX_INPUT_BYTES;
+use line::put_ecc;
+use line::put_refused;
+use line::put_regions;
+use line::put_stored;
+use line::put_too_long;
 use repair::MendResult;
 use view::ParseResult;
-
-// The longest input that is looked at.
-pub const LONGEST: usize = 65536;
 
 // The report on an image, from the start of out on; the number of its bytes.
 pub fn report(image: &[u8], out: &mut [u8; 128]) -> usize
@@ -24,7 +22,7 @@ pub fn report(image: &[u8], out: &mut [u8; 128]) -> usize
     ensures leaves { λ _. ⌜ now (out .exit) ≡ sets (now (out .entry)) 0 (reportText (now (image .entry))) ⌝ }
     ensures fits { λ r. ⌜ Counts r (now (out .exit)) ⌝ }
 {
-    if image.len() > LONGEST {
+    if image.len() > MAX_INPUT_BYTES {
         return put_too_long(out);
     }
     match view::parse(image) {
@@ -51,7 +49,7 @@ pub fn scrub(image: &mut [u8], out: &mut [u8; 128]) -> Printed
     ensures writes { λ r. ⌜ (r .image ≡ length (scrubImage (now (image .entry)))) × (take (r .image) (now (image .exit)) ≡ scrubImage (now (image .entry))) ⌝ }
     ensures fits { λ r. ⌜ Counts (r .line) (now (out .exit)) × Counts (r .image) (now (image .exit)) ⌝ }
 {
-    if image.len() > LONGEST {
+    if image.len() > MAX_INPUT_BYTES {
         return Printed {
             image: 0,
             line: put_too_long(out),

@@ -19,7 +19,7 @@ use Rattle.paper.specs.Scan.{planeOf, isProtected, visitOf, visitsOver, 
 use Rattle.paper.specs.Scrub.{scrub, scrubFrom, scrubRegion, scrubVisits, scrubWords, scrubWord, Scrubbed}
 use Rattle.paper.specs.Mend.{meets, meetsAny, inHeader, apartVerdict, mendVerdict, fixAt, fixAll, mendBytes, changed, mend, Mending, refusedMend, mended}
 use Rattle.paper.specs.Programs.{text, digits, decimal, field, tooLong, tooLongLine, refusedLine, regionsLine, eccLine, storedLine, reportText, scrubImage, scrubLine}
-use Rattle.paper.specs.Writer.{Row, rowEntries, planeEntry, planeEntries, rowWords, planesWords, planes, regions, planDirectory, entryBytes, entriesBytes, prologueStart, prologueBytes, checks, planeBytes, planesBytes, imageOf, kindAmong, rowsVerdict, imageLength, planVerdict, write, image, refusedPlan}
+use Rattle.paper.specs.Writer.{Row, rowEntries, planeEntry, planeEntries, rowWords, planesWords, planes, regions, planDirectory, entryBytes, entriesBytes, prologueStart, prologueBytes, checks, planeBytes, planesBytes, planImage, kindAmong, rowsVerdict, imageLength, planVerdict, write, image, refusedPlan}
 
 -- ---- what a figure computes with: a line `unfolding parsing` opens all that this one names
 
@@ -40,8 +40,8 @@ unfolding mending reportText scrubImage scrubLine tooLong tooLongLine refusedLin
 printing x = reportText x
 
 writing : List Row → List ℕ → List ℕ
-unfolding imageOf prologueBytes prologueStart crc32 le serialR stepR sent bitsLow bit regions planes planDirectory rowEntries planeEntries planeEntry entriesBytes entryBytes planesBytes planeBytes checks checkOf columns syn read rowWords
-writing rs payload = imageOf rs payload
+unfolding planImage prologueBytes prologueStart crc32 le serialR stepR sent bitsLow bit regions planes planDirectory rowEntries planeEntries planeEntry entriesBytes entryBytes planesBytes planeBytes checks checkOf columns syn read rowWords
+writing rs payload = planImage rs payload
 
 planning : List Row → List ℕ → ℕ → Prim.Unit {0}
 unfolding write planVerdict rowsVerdict kindAmong regions planes rowWords imageLength planesWords bit
@@ -51,7 +51,7 @@ planning rs payload room = tt
 
 emptyImage : List ℕ
 unfolding writing
-emptyImage = imageOf [] []
+emptyImage = planImage [] []
 
 empty-length : length emptyImage ≡ 48
 unfolding emptyImage
@@ -75,7 +75,7 @@ payload = 1 ∷ 2 ∷ 3 ∷ 4 ∷ 5 ∷ 6 ∷ 7 ∷ 8 ∷ []
 
 unfoldable pub oneImage : List ℕ
 unfolding oneRow payload writing
-oneImage = imageOf oneRow payload
+oneImage = planImage oneRow payload
 
 one-written : write oneRow payload 160 ≡ image oneImage
 unfolding oneImage planning
@@ -220,7 +220,7 @@ empty-plan-payload = refl
 
 noWords : List ℕ
 unfolding writing
-noWords = imageOf (row 1 2 0 ∷ []) []
+noWords = planImage (row 1 2 0 ∷ []) []
 
 -- a protected region without words is visited: a report of no words, and whole
 no-words : mend noWords ≡ mended noWords (some (record { words = 0; corrected = 0; uncorrectable = 0 })) 0 true

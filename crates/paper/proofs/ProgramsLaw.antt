@@ -8,7 +8,7 @@ use borrow.Author.Tests.{lt-ltb, le-ltb}
 use Rattle.paper.specs.Parse.{parse}
 use Rattle.paper.specs.Scan.{scan}
 use Rattle.paper.specs.Mend.{mend}
-use Rattle.paper.specs.Programs.{tooLong, tooLongLine, linesOf, reportText, imageOf, lineOf, scrubImage, scrubLine}
+use Rattle.paper.specs.Programs.{tooLong, tooLongLine, linesOf, reportText, imageOut, lineOf, scrubImage, scrubLine}
 
 module _ (x : List ℕ) (long : 65536 < length x) where
   pub too-long : tooLong x ≡ true
@@ -25,7 +25,7 @@ module _ (x : List ℕ) (long : 65536 < length x) where
 
   pub image-long : [] ≡ scrubImage x
   unfolding scrubImage
-  image-long = sym (ap (λ (t : Bool). cond t [] (imageOf (mend x))) too-long)
+  image-long = sym (ap (λ (t : Bool). cond t [] (imageOut (mend x))) too-long)
 
 module _ (x : List ℕ) (short : length x ≤ 65536) where
   pub looked-at : tooLong x ≡ false
@@ -40,6 +40,6 @@ module _ (x : List ℕ) (short : length x ≤ 65536) where
   unfolding scrubLine
   line-short = sym (ap (λ (t : Bool). cond t tooLongLine (lineOf (mend x))) looked-at)
 
-  pub image-short : imageOf (mend x) ≡ scrubImage x
+  pub image-short : imageOut (mend x) ≡ scrubImage x
   unfolding scrubImage
-  image-short = sym (ap (λ (t : Bool). cond t [] (imageOf (mend x))) looked-at)
+  image-short = sym (ap (λ (t : Bool). cond t [] (imageOut (mend x))) looked-at)

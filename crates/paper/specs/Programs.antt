@@ -67,16 +67,16 @@ reportText x = cond (tooLong x) tooLongLine (linesOf (parse x) (scan x))
 
 -- ---- scrub: the image to standard output, or no byte; the line to standard error
 
-abbrev pub imageOf : Mending → List ℕ
-imageOf (refusedMend n d) = []
-imageOf (mended y r stored whole) = y
+abbrev pub imageOut : Mending → List ℕ
+imageOut (refusedMend n d) = []
+imageOut (mended y r stored whole) = y
 
 abbrev pub lineOf : Mending → List ℕ
 lineOf (refusedMend n d) = refusedLine n d
 lineOf (mended y r stored whole) = storedLine stored
 
 unfoldable pub scrubImage : List ℕ → List ℕ
-scrubImage x = cond (tooLong x) [] (imageOf (mend x))
+scrubImage x = cond (tooLong x) [] (imageOut (mend x))
 
 unfoldable pub scrubLine : List ℕ → List ℕ
 scrubLine x = cond (tooLong x) tooLongLine (lineOf (mend x))

@@ -18,16 +18,21 @@ pub record Row : Type 0 where
 abbrev pub flagged : Row → Bool
 flagged r = hasParity (r .flags)
 
--- ceil (words / 8)
+-- words of a row's region, and of its plane: ceil (words / 8)
+abbrev pub regionWords : Row → ℕ
+regionWords r = r .words
+
 abbrev pub planeWords : Row → ℕ
-planeWords r = (r .words + 7) / 8
+planeWords r = (regionWords r + 7) / 8
 
 -- ---- the directory: the rows in order, then one plane per row flagged 2, packed from word a on
 
+abbrev pub rowEntry : ℕ → Row → Entry
+rowEntry a r = record { kind = r .kind; flags = r .flags; offset = a; words = regionWords r; covers = 0; spare = 0 }
+
 unfoldable pub rowEntries : ℕ → List Row → List Entry
 rowEntries a [] = []
-rowEntries a (r ∷ rs) =
-    record { kind = r .kind; flags = r .flags; offset = a; words = r .words; covers = 0; spare = 0 } ∷ rowEntries (a + r .words) rs
+rowEntries a (r ∷ rs) = rowEntry a r ∷ rowEntries (a + regionWords r) rs
 
 unfoldable pub planeEntry : ℕ → Row → Entry
 planeEntry a r = record { kind = 0x8000 + r .kind; flags = 8; offset = a; words = planeWords r; covers = r .kind; spare = 0 }
@@ -38,7 +43,7 @@ planeEntries a (r ∷ rs) = cond (flagged r) (planeEntry a r ∷ planeEntries (a
 
 unfoldable pub rowWords : List Row → ℕ
 rowWords [] = 0
-rowWords (r ∷ rs) = r .words + rowWords rs
+rowWords (r ∷ rs) = regionWords r + rowWords rs
 
 unfoldable pub planesWords : List Row → ℕ
 planesWords [] = 0
@@ -68,11 +73,12 @@ unfoldable pub entriesBytes : List Entry → List ℕ
 entriesBytes [] = []
 entriesBytes (e ∷ es) = entryBytes e ++ entriesBytes es
 
-unfoldable pub prologueStart : ℕ → List ℕ
-prologueStart n = le 4 0x4B415558 ++ (le 2 0xFEFF ++ (le 2 2 ++ (le 2 n ++ le 2 0)))
+-- of n regions
+unfoldable pub prologueStart : ℕ → ℕ → List ℕ
+prologueStart n flags = le 4 0x4B415558 ++ (le 2 0xFEFF ++ (le 2 2 ++ (le 2 n ++ le 2 flags)))
 
-unfoldable pub prologueBytes : ℕ → List ℕ
-prologueBytes n = prologueStart n ++ le 4 (crc32 (prologueStart n))
+unfoldable pub prologueBytes : ℕ → ℕ → List ℕ
+prologueBytes n flags = prologueStart n flags ++ le 4 (crc32 (prologueStart n flags))
 
 -- the check bytes of n words
 unfoldable pub checks : ℕ → List ℕ → List ℕ
@@ -85,11 +91,11 @@ planeBytes r b = checks (r .words) b ++ replicate (8 * planeWords r - r .words) 
 
 unfoldable pub planesBytes : List Row → List ℕ → List ℕ
 planesBytes [] b = []
-planesBytes (r ∷ rs) b = cond (flagged r) (planeBytes r b) [] ++ planesBytes rs (drop (8 * r .words) b)
+planesBytes (r ∷ rs) b = cond (flagged r) (planeBytes r b) [] ++ planesBytes rs (drop (8 * regionWords r) b)
 
-unfoldable pub imageOf : List Row → List ℕ → List ℕ
-imageOf rs payload =
-    thrice (prologueBytes (regions rs)) ++ (thrice (entriesBytes (planDirectory rs)) ++ (payload ++ planesBytes rs payload))
+unfoldable pub planImage : List Row → List ℕ → List ℕ
+planImage rs payload =
+    thrice (prologueBytes (regions rs) 0) ++ (thrice (entriesBytes (planDirectory rs)) ++ (payload ++ planesBytes rs payload))
 
 -- ---- the refusals
 
@@ -125,4 +131,4 @@ writeAs fine x = image x
 writeAs (refuse n d) x = refusedPlan n d
 
 unfoldable pub write : List Row → List ℕ → ℕ → Written
-write rs payload room = writeAs (planVerdict rs payload room) (imageOf rs payload)
+write rs payload room = writeAs (planVerdict rs payload room) (planImage rs payload)

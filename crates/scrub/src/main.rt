@@ -1,8 +1,10 @@
 // scrub: the image on standard input, mended, to standard output, and how many bytes changed to standard error. (FORMAT 11)
 
+// One byte more than the longest input that is mended, so that a longer one shows.
+const INPUT: usize = layout::MAX_INPUT_BYTES + 1;
+
 fn main() {
-    // One byte more than the longest input that is mended, so that a longer one shows.
-    let mut buffer = [0u8; 65537];
+    let mut buffer = [0u8; INPUT];
     if os::arg_count() > 1 {
         io::write_all(libc::STDERR_FILENO, b"usage: scrub <IMAGE >MENDED\n");
         return;

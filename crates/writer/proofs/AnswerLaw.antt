@@ -8,28 +8,28 @@ use borrow.Author.Tests.{ltb-false, lt-ltb, le-ltb, eqb-true, not-false}
 use lib.Dec.{eqb, ltb}
 use lib.ListN.{length}
 use Rattle.paper.specs.Refusals.{Verdict, fine, refuse, tooManyRegions, _then_, refuseIf}
-use Rattle.paper.specs.Writer.{Row, Written, rowWords, imageOf, imageLength}
+use Rattle.paper.specs.Writer.{Row, Written, rowWords, planImage, imageLength}
 use Rattle.laws.proofs.VerdictLaw.{passed}
 use Rattle.error.specs.declared.Refusal.{Refusal}
 use Rattle.error.specs.declared.Refusal.the-variants.{TooManyRegions}
 use Rattle.writer.specs.declared.plan.Checked.{Checked}
 use Rattle.writer.specs.declared.plan.Checked.the-variants.{Fine}
 use Rattle.writer.specs.declared.plan.Checked.the-variants as checked
-use Rattle.writer.specs.declared.room.WriteResult.{WriteResult}
-use Rattle.writer.specs.declared.room.WriteResult.the-variants as result
-use Rattle.writer.specs.Answers.{wrote, refused, asWritten, judged, Answered}
+use Rattle.writer.specs.declared.sizes.WriteResult.{WriteResult}
+use Rattle.writer.specs.declared.sizes.WriteResult.the-variants as result
+use Rattle.writer.specs.Answers.{wrote, refused, asWritten, answerAs, Answered}
 use Rattle.writer.specs.Kept.{sizesVerdict, checkedVerdict}
-use Rattle.laws.specs.Put.{Put}
-use Rattle.laws.proofs.PutLaw.{put-over}
+use Rattle.put.specs.Put.{Put}
+use Rattle.laws.proofs.AppendLaw.{put-over}
 
--- ---- what judge says
+-- ---- what check_sizes says
 
-written-fine : (v : Verdict) (n m : ℕ) → wrote m ≡ judged v n → v ≡ fine
+written-fine : (v : Verdict) (n m : ℕ) → wrote m ≡ answerAs v n → v ≡ fine
 written-fine fine n m e = refl
 written-fine (refuse k d) n m e = let z : _≡_ {A = ℕ} 0 1 = cc in absurd (omega arith)
 
-pub judged-fine : (v : Verdict) (n m : ℕ) (r : WriteResult) → asWritten r ≡ judged v n → r ≡ result.Written m → v ≡ fine
-judged-fine v n m r e f = written-fine v n m (sym (ap asWritten f) ∙ e)
+pub verdict-fine : (v : Verdict) (n m : ℕ) (r : WriteResult) → asWritten r ≡ answerAs v n → r ≡ result.Written m → v ≡ fine
+verdict-fine v n m r e f = written-fine v n m (sym (ap asWritten f) ∙ e)
 
 alone : (t : Bool) (n d : ℕ) → refuseIf t n d ≡ fine → t ≡ false
 alone true n d e = let z : _≡_ {A = ℕ} 0 1 = cc in absurd (omega arith)
@@ -59,19 +59,19 @@ module _ (rs : List Row) (payload : List ℕ) (room : ℕ) (e : sizesVerdict rs 
 -- ---- the answer
 
 module _ (rs : List Row) (payload out : List ℕ) where
-  pub answered-refused : (v : Verdict) (n : ℕ) (r : WriteResult) (e : Refusal) → asWritten r ≡ judged v n → r ≡ result.Refused e → Answered v rs payload out r out
+  pub answered-refused : (v : Verdict) (n : ℕ) (r : WriteResult) (e : Refusal) → asWritten r ≡ answerAs v n → r ≡ result.Refused e → Answered v rs payload out r out
   answered-refused fine n r e h f = let z : _≡_ {A = ℕ} 0 1 = cc (ap asWritten f) in absurd (omega arith)
   answered-refused (refuse k d) n r e h f = record { answer = h; bytes = refl }
 
-  pub answered-written : (v : Verdict) (n m : ℕ) (r : WriteResult) {p : ℕ} {after : List ℕ} → asWritten r ≡ judged v n → r ≡ result.Written m
-      → length (imageOf rs payload) ≡ n → n ≤ length out → Put out 0 (imageOf rs payload) p after → Answered v rs payload out r after
+  pub answered-written : (v : Verdict) (n m : ℕ) (r : WriteResult) {p : ℕ} {after : List ℕ} → asWritten r ≡ answerAs v n → r ≡ result.Written m
+      → length (planImage rs payload) ≡ n → n ≤ length out → Put out 0 (planImage rs payload) p after → Answered v rs payload out r after
   answered-written fine n m r h f l s q = record {
     answer = h ∙ ap wrote (sym l);
-    bytes = q .stored ∙ put-over out (imageOf rs payload) (omega (arith, l, s));
+    bytes = q .stored ∙ put-over out (planImage rs payload) (omega (arith, l, s));
   }
   answered-written (refuse k d) n m r h f l s q = let z : _≡_ {A = ℕ} 0 1 = cc (ap asWritten f) in absurd (omega arith)
 
-  -- the rows were refused, are too many, or are judged by their sizes
+  -- the rows were refused, are too many, or are answerAs by their sizes
   pub rows-refused : (c : Checked) (e : Refusal) → c ≡ checked.Refused e → Answered (checkedVerdict c rs payload (length out)) rs payload out (result.Refused e) out
   unfolding checkedVerdict
   rows-refused c e f = subst (λ (x : Checked). Answered (checkedVerdict x rs payload (length out)) rs payload out (result.Refused e) out) (sym f) (record { answer = refl; bytes = refl })

@@ -5,39 +5,39 @@ use Prim.Native.Nat.{ℕ, _+_, _*_}
 use native.Mathlib.Omega.{arith}
 use lib.ListN.{length, length-append}
 use Rattle.paper.specs.Bytes.{thrice}
-use Rattle.paper.specs.Writer.{Row, rowEntries, planeEntries, rowWords, regions, planDirectory, entriesBytes, prologueBytes, planesBytes, imageOf, imageLength}
+use Rattle.paper.specs.Writer.{Row, rowEntries, planeEntries, rowWords, regions, firstWord, planDirectory, entriesBytes, prologueBytes, planesBytes, planImage, imageLength}
 use Rattle.paper.proofs.BytesLaw.{length-thrice}
 use Rattle.laws.proofs.ImageLaw.{length-entriesBytes, length-directory, length-prologueBytes}
 use Rattle.laws.proofs.PlanPairs.{length-planes}
 
--- one copy of the directory, of n regions, the rows' words together w
+-- one copy of the directory, the regions packed from word a on, the rows' words together w
 abbrev pub copyOf : ℕ → ℕ → List Row → List ℕ
-copyOf n w rs = entriesBytes (rowEntries (6 + 6 * n) rs ++ planeEntries (6 + 6 * n + w) rs)
+copyOf a w rs = entriesBytes (rowEntries a rs ++ planeEntries (a + w) rs)
 
-pub copy-is : (n w : ℕ) (rs : List Row) → n ≡ regions rs → w ≡ rowWords rs → copyOf n w rs ≡ entriesBytes (planDirectory rs)
+pub copy-is : (a w : ℕ) (rs : List Row) → a ≡ firstWord rs → w ≡ rowWords rs → copyOf a w rs ≡ entriesBytes (planDirectory rs)
 unfolding planDirectory
-copy-is n w rs e f = ap₂ (λ (m v : ℕ). copyOf m v rs) e f
+copy-is a w rs e f = ap₂ (λ (b v : ℕ). copyOf b v rs) e f
 
 pub copy-length : (rs : List Row) → length (entriesBytes (planDirectory rs)) ≡ 16 * regions rs
 copy-length rs = length-entriesBytes (planDirectory rs) ∙ ap (λ (m : ℕ). 16 * m) (length-directory rs)
 
-pub prologues-length : (n : ℕ) → length (thrice (prologueBytes n)) ≡ 48
-prologues-length n = length-thrice (prologueBytes n) 16 (length-prologueBytes n)
+pub prologues-length : (n flags : ℕ) → length (thrice (prologueBytes n flags)) ≡ 48
+prologues-length n flags = length-thrice (prologueBytes n flags) 16 (length-prologueBytes n flags)
 
 pub copies-length : (rs : List Row) → length (thrice (entriesBytes (planDirectory rs))) ≡ 48 * regions rs
 copies-length rs = length-thrice (entriesBytes (planDirectory rs)) (16 * regions rs) (copy-length rs) ∙ omega arith
 
-pub image-length : (rs : List Row) (payload : List ℕ) → length payload ≡ 8 * rowWords rs → length (imageOf rs payload) ≡ imageLength rs
-unfolding imageOf imageLength
+pub image-length : (rs : List Row) (payload : List ℕ) → length payload ≡ 8 * rowWords rs → length (planImage rs payload) ≡ imageLength rs
+unfolding planImage imageLength
 image-length rs payload e =
     let c = thrice (entriesBytes (planDirectory rs)) in
     let q = planesBytes rs payload in
     omega (
       arith,
-      length-append (thrice (prologueBytes (regions rs))) (c ++ (payload ++ q)),
+      length-append (thrice (prologueBytes (regions rs) 0)) (c ++ (payload ++ q)),
       length-append c (payload ++ q),
       length-append payload q,
-      prologues-length (regions rs),
+      prologues-length (regions rs) 0,
       copies-length rs,
       length-planes rs payload,
     )

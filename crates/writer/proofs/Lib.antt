@@ -1,12 +1,12 @@
 pub mod AnswerLaw
 pub mod EntriesLaw
 pub mod ImageLaw
-pub mod JudgeLaw
+pub mod SizesLaw
 pub mod Laid
 pub mod LoopLaw
 pub mod MarksLaw
 pub mod OneAnswer
 pub mod RowsLaw
 pub mod RunLaw
-pub mod TakenLaw
+pub mod CheckingLaw
 pub mod WriteLaw

@@ -7,7 +7,7 @@ use lib.ListN.{length, getD, drop, drop-of-length-le}
 use lib.Seq.{drop-cons}
 use Rattle.writer.specs.declared.plan.Row.{Row}
 use Rattle.writer.specs.declared.plan.Checked.{Checked}
-use Rattle.writer.specs.Taken.{takeRow, takePlan, takeRows}
+use Rattle.writer.specs.Checking.{checkRow, planAfter, checkRows}
 
 -- what stands past the end
 abbrev pub noRow : Row
@@ -17,15 +17,15 @@ abbrev pub rowAt : List Row → ℕ → Row
 rowAt rows i = getD rows i noRow
 
 -- one row further
-pub further : (ys : List Row) (i : ℕ) (st r : Checked) (zs ws : List ℕ) → i < length ys → r ≡ takeRow zs st i (rowAt ys i) → ws ≡ takePlan zs st i (rowAt ys i)
-    → takeRows (i + 1) (drop (i + 1) ys) (r, ws) ≡ takeRows i (drop i ys) (st, zs)
-unfolding takeRows
+pub further : (ys : List Row) (i : ℕ) (st r : Checked) (zs ws : List ℕ) → i < length ys → r ≡ checkRow zs st i (rowAt ys i) → ws ≡ planAfter zs st i (rowAt ys i)
+    → checkRows (i + 1) (drop (i + 1) ys) (r, ws) ≡ checkRows i (drop i ys) (st, zs)
+unfolding checkRows
 further ys i st r zs ws l e f =
-    ap (λ (k : ℕ). takeRows k (drop k ys) (r, ws)) (add-one i)
-    ∙ (λ j. takeRows (suc i) (drop (suc i) ys) (e j, f j))
-    ∙ sym (ap (λ (rs : List Row). takeRows i rs (st, zs)) (drop-cons ys i noRow l))
+    ap (λ (k : ℕ). checkRows k (drop k ys) (r, ws)) (add-one i)
+    ∙ (λ j. checkRows (suc i) (drop (suc i) ys) (e j, f j))
+    ∙ sym (ap (λ (rs : List Row). checkRows i rs (st, zs)) (drop-cons ys i noRow l))
 
 -- no row is left
-pub over : (ys : List Row) (i : ℕ) (a : Checked × List ℕ) → length ys ≤ i → takeRows i (drop i ys) a ≡ a
-unfolding takeRows
-over ys i a l = ap (λ (rs : List Row). takeRows i rs a) (drop-of-length-le ys l)
+pub over : (ys : List Row) (i : ℕ) (a : Checked × List ℕ) → length ys ≤ i → checkRows i (drop i ys) a ≡ a
+unfolding checkRows
+over ys i a l = ap (λ (rs : List Row). checkRows i rs a) (drop-of-length-le ys l)

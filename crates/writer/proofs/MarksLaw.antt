@@ -11,7 +11,7 @@ use lib.ListN.{length, getD, set, replicate, getD-replicate}
 use lib.Seq.{getD-set-same, getD-set-other}
 use Rattle.bits.specs.Bit.{isOne, bit}
 use Rattle.bits.proofs.BitLaw.{bit-zero, bit-suc, bit-none, bit-or, pow-half, pow-even}
-use Rattle.writer.specs.Taken.{marked, withMark}
+use Rattle.writer.specs.Checking.{marked, withMark}
 
 bit-own : (a : ℕ) → bit (2 ^ a) a ≡ true
 bit-own zero = bit-zero 1

@@ -21,9 +21,9 @@ use Rattle.writer.specs.declared.plan.Row.{Row}
 use Rattle.writer.specs.declared.plan.Checked.{Checked}
 use Rattle.writer.specs.declared.plan.Checked.the-variants.{Fine, Refused}
 use Rattle.writer.specs.Answers.{asRow, asPlan}
-use Rattle.writer.specs.Taken.{badRow, marked, withMark, withRow, packedRow, regionsOf, takeRow, takePlan, takeRows}
+use Rattle.writer.specs.Checking.{badRow, marked, withMark, withRow, packedRow, regionsOf, checkRow, planAfter, checkRows}
 use Rattle.writer.proofs.MarksLaw.{mark-sets, mark-stays}
-use Rattle.writer.proofs.TakenLaw.{took-bad, took-again, took-fine}
+use Rattle.writer.proofs.CheckingLaw.{check-bad, check-again, check-fine}
 
 -- the marks are the kinds of the earlier rows
 pub record Marks (plan : List ℕ) (earlier : List paper.Row) : Type 0 where
@@ -70,8 +70,8 @@ ran-none i n plan earlier l = record {
 }
 
 -- rows after a refusal
-taken-refused : (i : ℕ) (rows : List Row) (e : Refusal) (plan : List ℕ) → takeRows i rows (Refused e, plan) ≡ (Refused e, plan)
-unfolding takeRows takeRow takePlan
+taken-refused : (i : ℕ) (rows : List Row) (e : Refusal) (plan : List ℕ) → checkRows i rows (Refused e, plan) ≡ (Refused e, plan)
+unfolding checkRows checkRow planAfter
 taken-refused i [] e plan = refl
 taken-refused i (r ∷ rs) e plan = taken-refused (suc i) rs e plan
 
@@ -191,9 +191,9 @@ Does i n plan earlier rows a = Ran i n plan earlier rows (a .0) (a .1)
 
 -- a row, and what the rows after it make of any state
 module _ (i n : ℕ) (plan : List ℕ) (earlier : List paper.Row) (r : Row) (rs : List Row) (g : Marks plan earlier) (h : n + 2 * suc (length rs) < 2 ^ 64)
-    (rec : (plan′ : List ℕ) → Marks plan′ (asRow r ∷ earlier) → (n′ : ℕ) → n′ + 2 * length rs < 2 ^ 64 → Does (suc i) n′ plan′ (asRow r ∷ earlier) rs (takeRows (suc i) rs (Fine n′, plan′))) where
+    (rec : (plan′ : List ℕ) → Marks plan′ (asRow r ∷ earlier) → (n′ : ℕ) → n′ + 2 * length rs < 2 ^ 64 → Does (suc i) n′ plan′ (asRow r ∷ earlier) rs (checkRows (suc i) rs (Fine n′, plan′))) where
   abbrev Goal : Checked × List ℕ → Type 0
-  Goal a = Does i n plan earlier (r ∷ rs) (takeRows (suc i) rs a)
+  Goal a = Does i n plan earlier (r ∷ rs) (checkRows (suc i) rs a)
 
   stopped : (e : Refusal) → rowsVerdict i earlier (asPlan (r ∷ rs)) ≡ asVerdict e → Goal (Refused e, plan)
   stopped e v = subst (Does i n plan earlier (r ∷ rs)) (sym (taken-refused (suc i) rs e plan)) (ran-stop i n plan earlier (r ∷ rs) e (g .long) v)
@@ -204,25 +204,25 @@ module _ (i n : ℕ) (plan : List ℕ) (earlier : List paper.Row) (r : Row) (rs 
       let few : regionsOf (r .flags) ≤ 2 = few-regions (r .flags) in
       let new : List ℕ = withRow (withMark plan (r .kind)) i r in
       let e : (n + regionsOf (r .flags)) % 2 ^ 64 ≡ n + regionsOf (r .flags) = mod-eq-of-lt (omega (arith, few, h)) in
-      let a = takeRows (suc i) rs (Fine (n + regionsOf (r .flags)), new) in
+      let a = checkRows (suc i) rs (Fine (n + regionsOf (r .flags)), new) in
       subst (λ (k : ℕ). Goal (Fine k, new)) (sym e)
       (ran-on i plan earlier r low g n rs (a .0) (a .1) (verdict-on i earlier r rs b (sym (g .seen (r .kind) low) ∙ m))
       (rec new (next-marks i plan earlier r low g) (n + regionsOf (r .flags)) (omega (arith, few, h))))
 
-  taken : (b : Bool) → badRow r ≡ b → (m : Bool) → marked plan (r .kind) ≡ m → Goal (takeRow plan (Fine n) i r, takePlan plan (Fine n) i r)
+  taken : (b : Bool) → badRow r ≡ b → (m : Bool) → marked plan (r .kind) ≡ m → Goal (checkRow plan (Fine n) i r, planAfter plan (Fine n) i r)
   taken true e m f =
-      let t = took-bad plan (Fine n) i r n refl e in
+      let t = check-bad plan (Fine n) i r n refl e in
       subst Goal (λ j. (t .0 j, t .1 j)) (stopped (BadPlan i) (verdict-bad i earlier r rs e))
   taken false e true f =
-      let t = took-again plan (Fine n) i r n refl e f in
+      let t = check-again plan (Fine n) i r n refl e f in
       subst Goal (λ j. (t .0 j, t .1 j)) (stopped (DuplicateRegion (r .kind)) (verdict-again i earlier r rs e (sym (g .seen (r .kind) (low-kind r e)) ∙ f)))
   taken false e false f =
-      let t = took-fine plan (Fine n) i r n refl e f in
+      let t = check-fine plan (Fine n) i r n refl e f in
       subst Goal (λ j. (t .0 j, t .1 j)) (went-on e f)
 
 pub runs : (rows : List Row) (i n : ℕ) (plan : List ℕ) (earlier : List paper.Row) → Marks plan earlier → n + 2 * length rows < 2 ^ 64
-    → Does i n plan earlier rows (takeRows i rows (Fine n, plan))
-unfolding takeRows
+    → Does i n plan earlier rows (checkRows i rows (Fine n, plan))
+unfolding checkRows
 runs [] i n plan earlier g h = ran-none i n plan earlier (g .long)
 runs (r ∷ rs) i n plan earlier g h =
     taken i n plan earlier r rs g h (λ plan′ g′ n′ h′. runs rs (suc i) n′ plan′ (asRow r ∷ earlier) g′ h′) (badRow r) refl (marked plan (r .kind)) refl

@@ -9,15 +9,15 @@ use lib.Dec.{ltb, lit<}
 use lib.ListN.{length, getD, replicate, length-replicate}
 use Rattle.paper.specs.Refusals.{Verdict, tooManyRegions, _then_, refuseIf}
 use Rattle.paper.specs.Writer as paper
-use Rattle.paper.specs.Writer.{regions, kindAmong, rowsVerdict, planVerdict, imageOf, writeAs, write}
+use Rattle.paper.specs.Writer.{regions, kindAmong, rowsVerdict, planVerdict, planImage, writeAs, write}
 use Rattle.laws.proofs.PlanLaw.{RowsOK, rows-ok}
 use Rattle.writer.specs.declared.plan.Row.{Row}
 use Rattle.writer.specs.declared.plan.Checked.{Checked}
 use Rattle.writer.specs.declared.plan.Checked.the-variants.{Fine, Refused}
-use Rattle.writer.specs.declared.room.WriteResult.{WriteResult}
+use Rattle.writer.specs.declared.sizes.WriteResult.{WriteResult}
 use Rattle.writer.specs.Answers.{asRow, asPlan, asWritten, answerOf, bytesAfter, Answered}
 use Rattle.writer.specs.Kept.{kindIn, rowOf, rowsOf, keptRows, Kept, sizesVerdict, checkedVerdict}
-use Rattle.writer.specs.Taken.{packedRow, takeRows}
+use Rattle.writer.specs.Checking.{packedRow, checkRows}
 use Rattle.writer.proofs.MarksLaw.{no-marks}
 use Rattle.writer.proofs.RunLaw.{Marks, packs, Ran, runs}
 
@@ -56,7 +56,7 @@ none-seen : Marks (replicate 1536 0) []
 unfolding kindAmong
 none-seen = record { seen = no-marks; long = length-replicate {A = ℕ} 1536 0 }
 
-module _ (rows : List Row) (state : Checked) (kept : List ℕ) (few : length rows * 8 < 2 ^ 63) (e : (state, kept) ≡ takeRows 0 rows (Fine 0, replicate 1536 0)) where
+module _ (rows : List Row) (state : Checked) (kept : List ℕ) (few : length rows * 8 < 2 ^ 63) (e : (state, kept) ≡ checkRows 0 rows (Fine 0, replicate 1536 0)) where
   ran : Ran 0 0 (replicate 1536 0) [] rows state kept
   ran = subst (λ (a : Checked × List ℕ). Ran 0 0 (replicate 1536 0) [] rows (a .0) (a .1)) (sym e) (runs rows 0 0 (replicate 1536 0) [] none-seen (omega (arith, few)))
 
@@ -91,27 +91,27 @@ module _ (rows : List Row) (state : Checked) (kept : List ℕ) (few : length row
     rs = rowsOf (keptRows kept (length rows))
 
     abbrev toWrite : Verdict → paper.Written
-    toWrite v = writeAs (v then refuseIf (ltb 1024 (regions (asPlan rows))) tooManyRegions (regions (asPlan rows)) then sizesVerdict (asPlan rows) payload room) (imageOf (asPlan rows) payload)
+    toWrite v = writeAs (v then refuseIf (ltb 1024 (regions (asPlan rows))) tooManyRegions (regions (asPlan rows)) then sizesVerdict (asPlan rows) payload room) (planImage (asPlan rows) payload)
 
     write-is : write (asPlan rows) payload room ≡ toWrite (rowsVerdict 0 [] (asPlan rows))
     unfolding write planVerdict sizesVerdict
     write-is = refl
 
     abbrev toAnswer : Checked → paper.Written
-    toAnswer s = writeAs (checkedVerdict s rs payload room) (imageOf rs payload)
+    toAnswer s = writeAs (checkedVerdict s rs payload room) (planImage rs payload)
 
     fine-is : (n : ℕ) → state ≡ Fine n → (t : Bool) → ltb 1024 n ≡ t
-        → writeAs (refuseIf t tooManyRegions n then sizesVerdict rs payload room) (imageOf rs payload)
-        ≡ writeAs (refuseIf t tooManyRegions (regions (asPlan rows)) then sizesVerdict (asPlan rows) payload room) (imageOf (asPlan rows) payload)
+        → writeAs (refuseIf t tooManyRegions n then sizesVerdict rs payload room) (planImage rs payload)
+        ≡ writeAs (refuseIf t tooManyRegions (regions (asPlan rows)) then sizesVerdict (asPlan rows) payload room) (planImage (asPlan rows) payload)
     fine-is n f true h = ap (paper.refusedPlan tooManyRegions) (count-is n f)
-    fine-is n f false h = ap (λ (l : List paper.Row). writeAs (sizesVerdict l payload room) (imageOf l payload)) (rows-are n f (ltb-false 1024 n h))
+    fine-is n f false h = ap (λ (l : List paper.Row). writeAs (sizesVerdict l payload room) (planImage l payload)) (rows-are n f (ltb-false 1024 n h))
 
     state-is : (s : Checked) → state ≡ s → toAnswer s ≡ write (asPlan rows) payload room
     unfolding checkedVerdict
     state-is (Refused r) f = ap toWrite (sym (ran .refused r f)) ∙ sym write-is
     state-is (Fine n) f =
         fine-is n f (ltb 1024 n) refl
-        ∙ ap (λ (m : ℕ). writeAs (refuseIf (ltb 1024 m) tooManyRegions (regions (asPlan rows)) then sizesVerdict (asPlan rows) payload room) (imageOf (asPlan rows) payload)) (count-is n f)
+        ∙ ap (λ (m : ℕ). writeAs (refuseIf (ltb 1024 m) tooManyRegions (regions (asPlan rows)) then sizesVerdict (asPlan rows) payload room) (planImage (asPlan rows) payload)) (count-is n f)
         ∙ ap toWrite (sym (ran .fined n f)) ∙ sym write-is
 
   pub answered-is : (payload out : List ℕ) {r : WriteResult} {after : List ℕ}

@@ -7,8 +7,8 @@ use Rattle.paper.specs.Refusals.{Verdict, fine, refuse}
 use Rattle.paper.specs.Writer as paper
 use Rattle.error.specs.Refused.{numberOf, detailOf}
 use Rattle.writer.specs.declared.plan.Row.{Row}
-use Rattle.writer.specs.declared.room.WriteResult.{WriteResult}
-use Rattle.writer.specs.declared.room.WriteResult.the-variants.{Written, Refused}
+use Rattle.writer.specs.declared.sizes.WriteResult.{WriteResult}
+use Rattle.writer.specs.declared.sizes.WriteResult.the-variants.{Written, Refused}
 
 abbrev pub asRow : Row → paper.Row
 asRow r = record { kind = r .kind; flags = r .flags; words = r .words }
@@ -18,15 +18,15 @@ asPlan [] = []
 asPlan (r ∷ rs) = asRow r ∷ asPlan rs
 
 -- an image's length, or a refusal
-pub data Answer : Type 0 where
-  wrote : ℕ → Answer
-  refused : ℕ → ℕ → Answer
+pub data WriteAnswer : Type 0 where
+  wrote : ℕ → WriteAnswer
+  refused : ℕ → ℕ → WriteAnswer
 
-abbrev pub asWritten : WriteResult → Answer
+abbrev pub asWritten : WriteResult → WriteAnswer
 asWritten (Written n) = wrote n
 asWritten (Refused r) = refused (numberOf r) (detailOf r)
 
-abbrev pub answerOf : paper.Written → Answer
+abbrev pub answerOf : paper.Written → WriteAnswer
 answerOf (paper.image x) = wrote (length x)
 answerOf (paper.refusedPlan n d) = refused n d
 
@@ -38,11 +38,11 @@ bytesAfter (paper.refusedPlan n d) out = out
 -- ---- steps of code, for private contracts
 
 -- a verdict and the length that an accepted plan's image has
-abbrev pub judged : Verdict → ℕ → Answer
-judged fine n = wrote n
-judged (refuse n d) k = refused n d
+abbrev pub answerAs : Verdict → ℕ → WriteAnswer
+answerAs fine n = wrote n
+answerAs (refuse n d) k = refused n d
 
 -- what a run says, of a plan with this verdict: its answer, and every byte of the output
 pub record Answered (v : Verdict) (rs : List paper.Row) (payload before : List ℕ) (r : WriteResult) (after : List ℕ) : Type 0 where
-  pub answer : asWritten r ≡ answerOf (paper.writeAs v (paper.imageOf rs payload))
-  pub bytes : after ≡ bytesAfter (paper.writeAs v (paper.imageOf rs payload)) before
+  pub answer : asWritten r ≡ answerOf (paper.writeAs v (paper.planImage rs payload))
+  pub bytes : after ≡ bytesAfter (paper.writeAs v (paper.planImage rs payload)) before

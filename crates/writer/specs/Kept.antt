@@ -6,7 +6,6 @@ use Prim.Native.Nat.{ℕ, _*_, _/_, _%_, _≤_, _<_}
 use lib.Dec.{eqb, ltb}
 use lib.ListN.{length, getD, take, drop}
 use Rattle.paper.specs.Refusals.{Verdict, badPlan, tooManyRegions, tooLarge, noRoom, _then_, refuseIf}
-use Rattle.paper.specs.Layout.{Entry}
 use Rattle.paper.specs.Writer.{Row, rowEntries, planeEntries, entriesBytes, regions, rowWords, imageLength}
 use Rattle.error.specs.Refused.{asVerdict}
 use Rattle.writer.specs.declared.plan.Checked.{Checked}
@@ -23,10 +22,6 @@ wordsIn x = x / 4294967296
 
 abbrev pub rowOf : ℕ → Row
 rowOf x = record { kind = kindIn x; flags = flagsIn x; words = wordsIn x }
-
--- a row's entry, packed from word a on
-abbrev pub rowEntry : ℕ → Row → Entry
-rowEntry a r = record { kind = r .kind; flags = r .flags; offset = a; words = r .words; covers = 0; spare = 0 }
 
 unfoldable pub rowsOf : List ℕ → List Row
 rowsOf [] = []

@@ -1,3 +1,3 @@
 pub mod Answers
 pub mod Kept
-pub mod Taken
+pub mod Checking

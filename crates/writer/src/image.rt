@@ -3,34 +3,38 @@ ghost use mathlib.Core.Path.{_≡_};
 ghost use Prim.Native.Nat.{ℕ, _+_, _*_, _≤_, _<_};
 ghost use lib.ListN.{length, getD};
 ghost use Rattle.paper.specs.Bytes.{thrice};
-ghost use Rattle.paper.specs.Writer.{prologueBytes, rowWords, planesWords, rowEntries, planeEntries, entriesBytes, planesBytes, imageOf};
+ghost use Rattle.paper.specs.Writer.{prologueBytes, rowWords, planesWords, rowEntry, planeEntry, rowEntries, planeEntries, entriesBytes, planesBytes, planImage};
 ghost use Rattle.paper.specs.Writer as paper;
 ghost use Rattle.writer.specs.Answers.{Answered};
-ghost use Rattle.writer.specs.Kept.{kindIn, rowOf, rowEntry, rowsOf, directoryBytes, Low, keptRows, Kept, Sized, sizesVerdict, checkedVerdict};
-ghost use Rattle.laws.specs.Put.{Put};
+ghost use Rattle.writer.specs.Kept.{kindIn, rowOf, rowsOf, directoryBytes, Low, keptRows, Kept, Sized, sizesVerdict, checkedVerdict};
+ghost use Rattle.put.specs.Put.{Put};
 ghost use Rattle.layout.specs.Regions.{asEntry};
+use super::parts::put_entry;
+use super::parts::put_plane;
+use super::parts::put_prologue;
 use super::plan::Checked;
+use super::plan::MARK_WORDS;
+use super::plan::PLAN_WORDS;
 use super::plan::flags_of;
 use super::plan::is_protected;
 use super::plan::kind_of;
 use super::plan::plane_words;
 use super::plan::words_of;
-use super::put::put_bytes;
-use super::put::put_entry;
-use super::put::put_plane;
-use super::put::put_prologue;
-use super::room::WriteResult;
-use super::room::judge;
-use super::room::row_words;
+use super::sizes::WriteResult;
+use super::sizes::check_sizes;
+use super::sizes::row_words;
 use ecc::ECC_KIND_BIT;
 use error::Refusal;
 use layout::FLAG_IS_ECC;
 use layout::MAX_REGIONS;
 use layout::Region;
+use layout::WORD;
+use layout::header_length;
+use put::put_bytes;
 
 // What is refused, or the image written: of `count` rows whose checks said `checked`, kept in `plan` if they are few.
 pub(crate) fn write_plan(
-    plan: &[u64; 1536],
+    plan: &[u64; PLAN_WORDS],
     checked: Checked,
     count: usize,
     payload: &[u8],
@@ -48,8 +52,8 @@ pub(crate) fn write_plan(
         return WriteResult::Refused(Refusal::TooManyRegions { found: regions });
     }
     let kept = &plan[..];
-    let end = 512 + count;
-    write_rows(&kept[512..end], regions, payload, out)
+    let end = MARK_WORDS + count;
+    write_rows(&kept[MARK_WORDS..end], regions, payload, out)
 }
 
 // The same of rows that are fine and few.
@@ -58,33 +62,34 @@ fn write_rows(rows: &[u64], regions: usize, payload: &[u8], out: &mut [u8]) -> W
     ensures { λ r. ⌜ Answered (sizesVerdict (rowsOf (now (rows .entry))) (now (payload .entry)) (length (now (out .entry))))
         (rowsOf (now (rows .entry))) (now (payload .entry)) (now (out .entry)) r (now (out .exit)) ⌝ }
 {
-    let judged = judge(rows, regions, payload, out.len());
-    let WriteResult::Written(_) = judged else {
-        return judged;
+    let answer = check_sizes(rows, regions, payload, out.len());
+    let WriteResult::Written(_) = answer else {
+        return answer;
     };
     put_image(out, rows, regions, payload);
-    judged
+    answer
 }
 
 fn put_image(out: &mut [u8], rows: &[u64], regions: usize, payload: &[u8]) -> usize
     requires { ⌜ Sized (now rows) regions (now payload) (now out) ⌝ }
-    ensures { λ r. ⌜ Put (now (out .entry)) 0 (imageOf (rowsOf (now (rows .entry))) (now (payload .entry))) r (now (out .exit)) ⌝ }
+    ensures { λ r. ⌜ Put (now (out .entry)) 0 (planImage (rowsOf (now (rows .entry))) (now (payload .entry))) r (now (out .exit)) ⌝ }
 {
-    let directory = put_prologues(out, regions as u16);
-    let first_word = 6 + 6 * (regions as u32);
+    let count = regions as u16;
+    let directory = put_prologues(out, count, 0);
+    let first_word = (header_length(count) / WORD) as u32;
     let plane_word = first_word + row_words(rows) as u32;
     let packed = put_directories(out, directory, rows, first_word, plane_word);
     let planes = put_bytes(out, packed, payload);
     put_planes(out, planes, rows, payload)
 }
 
-fn put_prologues(out: &mut [u8], regions: u16) -> usize
+fn put_prologues(out: &mut [u8], regions: u16, flags: u16) -> usize
     requires { ⌜ 48 ≤ length (now out) ⌝ }
-    ensures { λ r. ⌜ Put (now (out .entry)) 0 (thrice (prologueBytes regions)) r (now (out .exit)) ⌝ }
+    ensures { λ r. ⌜ Put (now (out .entry)) 0 (thrice (prologueBytes regions flags)) r (now (out .exit)) ⌝ }
 {
-    let second = put_prologue(out, 0, regions);
-    let third = put_prologue(out, second, regions);
-    put_prologue(out, third, regions)
+    let second = put_prologue(out, 0, regions, flags);
+    let third = put_prologue(out, second, regions, flags);
+    put_prologue(out, third, regions, flags)
 }
 
 fn put_directories(
@@ -169,7 +174,7 @@ fn row_entry(row: u64, offset: u32) -> Region
 
 fn plane_entry(row: u64, offset: u32) -> Region
     requires { ⌜ kindIn row < 0x8000 ⌝ }
-    ensures { λ r. ⌜ asEntry r ≡ paper.planeEntry offset (rowOf row) ⌝ }
+    ensures { λ r. ⌜ asEntry r ≡ planeEntry offset (rowOf row) ⌝ }
 {
     let kind = kind_of(row);
     Region {
@@ -194,7 +199,7 @@ fn put_planes(out: &mut [u8], at: usize, rows: &[u64], payload: &[u8]) -> usize
         if is_protected(row) {
             next = put_plane(out, next, row, &payload[from..]);
         }
-        from += 8 * (words_of(row) as usize);
+        from += WORD * (words_of(row) as usize);
         i += 1;
     }
     next

@@ -5,29 +5,29 @@ ghost use Rattle.paper.specs.Writer as paper;
 ghost use Rattle.writer.specs.Answers.{asPlan, asWritten, answerOf, bytesAfter};
 
 mod image;
+mod parts;
 mod plan;
-mod put;
-mod room;
+mod sizes;
 
 use image::write_plan;
 use plan::Checked;
 pub use plan::Row;
-use plan::no_rows;
-use plan::take_row;
-pub use room::WriteResult;
+use plan::check_row;
+use plan::empty_plan;
+pub use sizes::WriteResult;
 
 // The image of the plan goes to the front of `out`, and the answer is its length; a refusal leaves every byte of `out` as it was.
-// This is the one function that holds a `&[Row]`, since its proof is by hand: each row goes to `take_row` by value, and what is
+// This is the one function that holds a `&[Row]`, since its proof is by hand: each row goes to `check_row` by value, and what is
 // kept of them to `write_plan`.
 pub fn write(rows: &[Row], payload: &[u8], out: &mut [u8]) -> WriteResult
     ensures { λ r. ⌜ (asWritten r ≡ answerOf (paper.write (asPlan (now (rows .entry))) (now (payload .entry)) (length (now (out .entry)))))
         × (now (out .exit) ≡ bytesAfter (paper.write (asPlan (now (rows .entry))) (now (payload .entry)) (length (now (out .entry)))) (now (out .entry))) ⌝ }
 {
-    let mut plan = no_rows();
+    let mut plan = empty_plan();
     let mut checked = Checked::Fine(0);
     let mut i = 0;
     while i < rows.len() {
-        checked = take_row(&mut plan, checked, i, rows[i]);
+        checked = check_row(&mut plan, checked, i, rows[i]);
         i += 1;
     }
     write_plan(&plan, checked, rows.len(), payload, out)

@@ -5,15 +5,31 @@ ghost use lib.ListN.{replicate};
 ghost use Rattle.paper.specs.Layout.{hasParity};
 ghost use Rattle.paper.specs.Writer.{flagged, planeWords};
 ghost use Rattle.writer.specs.Kept.{kindIn, flagsIn, wordsIn, rowOf};
-ghost use Rattle.writer.specs.Taken.{badRow, marked, withMark, withRow, packedRow, regionsOf, takeRow, takePlan};
+ghost use Rattle.writer.specs.Checking.{badRow, marked, withMark, withRow, packedRow, regionsOf, checkRow, planAfter};
+use ecc::ECC_KIND_BIT;
 use error::Refusal;
 use layout::FLAG_ECC_PRESENT;
 use layout::FLAG_ENCRYPTED;
 use layout::FLAG_OPTIONAL;
 use layout::MAX_REGIONS;
+use layout::WORD;
 
 // All flags that a row may have. A number has another bit exactly if it is above their sum.
 const ROW_FLAGS: u16 = FLAG_ENCRYPTED + FLAG_ECC_PRESENT + FLAG_OPTIONAL;
+
+// The kinds above are those of planes.
+const HIGHEST_KIND: u16 = ECC_KIND_BIT - 1;
+
+// Words with a bit for each kind that a row may have.
+pub(crate) const MARK_WORDS: usize = 512;
+
+// Words of a plan: the marks, and a row each.
+pub(crate) const PLAN_WORDS: usize = MARK_WORDS + MAX_REGIONS;
+
+// A row as one number: its kind has the lowest 16 bits, its flags the next 16, its words the highest 32.
+const FLAGS_UNIT: u64 = 1 << 16;
+
+const WORDS_UNIT: u64 = 1 << 32;
 
 #[repr(C)]
 pub struct Row {
@@ -28,17 +44,22 @@ pub(crate) enum Checked {
     Refused(Refusal),
 }
 
-// What is kept of the rows: a bit for each kind that was seen, and after those 512 words the first 1024 rows, a number each.
+// What is kept of the rows: a bit for each kind that was seen, and after those words the first rows, a number each.
 // So a kind is looked up at once, also in a plan of more rows than an image can have, and the rest of the writer needs no `&[Row]`.
-pub(crate) fn no_rows() -> [u64; 1536]
+pub(crate) fn empty_plan() -> [u64; PLAN_WORDS]
     ensures { λ r. ⌜ r ≡ replicate 1536 0 ⌝ }
 {
-    [0u64; 1536]
+    [0u64; PLAN_WORDS]
 }
 
-// One more row, the i-th: its checks in their order, then its mark, and the row itself if it is among the first 1024.
-pub(crate) fn take_row(plan: &mut [u64; 1536], so_far: Checked, i: usize, row: Row) -> Checked
-    ensures { λ r. ⌜ (r ≡ takeRow (now (plan .entry)) «so_far» i row) × (now (plan .exit) ≡ takePlan (now (plan .entry)) «so_far» i row) ⌝ }
+// One more row, the i-th: its checks in their order, then its mark, and the row itself if it is among the first that an image can have.
+pub(crate) fn check_row(
+    plan: &mut [u64; PLAN_WORDS],
+    so_far: Checked,
+    i: usize,
+    row: Row,
+) -> Checked
+    ensures { λ r. ⌜ (r ≡ checkRow (now (plan .entry)) «so_far» i row) × (now (plan .exit) ≡ planAfter (now (plan .entry)) «so_far» i row) ⌝ }
 {
     let Checked::Fine(regions) = so_far else {
         return so_far;
@@ -53,7 +74,7 @@ pub(crate) fn take_row(plan: &mut [u64; 1536], so_far: Checked, i: usize, row: R
         return Checked::Refused(Refusal::DuplicateRegion { kind });
     }
     mark(plan, kind);
-    keep(plan, i, row);
+    store_row(plan, i, row);
     // A slice has fewer than 2^60 rows, so this never wraps.
     Checked::Fine(std::num::wrapping_add_usize(regions, regions_of(row.flags)))
 }
@@ -62,17 +83,17 @@ pub(crate) fn take_row(plan: &mut [u64; 1536], so_far: Checked, i: usize, row: R
 fn is_bad(row: Row) -> bool
     ensures { λ r. ⌜ r ≡ badRow row ⌝ }
 {
-    row.kind > 0x7FFF || row.flags > ROW_FLAGS
+    row.kind > HIGHEST_KIND || row.flags > ROW_FLAGS
 }
 
 // Of a kind above 0x7FFF, which no row that is fine has, this says nothing of use.
-fn is_marked(plan: &[u64; 1536], kind: u16) -> bool
+fn is_marked(plan: &[u64; PLAN_WORDS], kind: u16) -> bool
     ensures { λ r. ⌜ r ≡ marked (now (plan .entry)) kind ⌝ }
 {
     plan[(kind / 64) as usize] & bit_of(kind) != 0
 }
 
-fn mark(plan: &mut [u64; 1536], kind: u16)
+fn mark(plan: &mut [u64; PLAN_WORDS], kind: u16)
     ensures { λ _. ⌜ now (plan .exit) ≡ withMark (now (plan .entry)) kind ⌝ }
 {
     let at = (kind / 64) as usize;
@@ -85,11 +106,11 @@ fn bit_of(kind: u16) -> u64
     1u64 << (kind % 64)
 }
 
-fn keep(plan: &mut [u64; 1536], i: usize, row: Row)
+fn store_row(plan: &mut [u64; PLAN_WORDS], i: usize, row: Row)
     ensures { λ _. ⌜ now (plan .exit) ≡ withRow (now (plan .entry)) i row ⌝ }
 {
     if i < MAX_REGIONS {
-        plan[512 + i] = packed(row);
+        plan[MARK_WORDS + i] = packed(row);
     }
 }
 
@@ -104,25 +125,25 @@ fn regions_of(flags: u16) -> usize
 fn packed(row: Row) -> u64
     ensures { λ r. ⌜ r ≡ packedRow row ⌝ }
 {
-    row.kind as u64 + (row.flags as u64) * 65536 + (row.words as u64) * 4_294_967_296
+    row.kind as u64 + (row.flags as u64) * FLAGS_UNIT + (row.words as u64) * WORDS_UNIT
 }
 
 pub(crate) fn kind_of(packed: u64) -> u16
     ensures { λ r. ⌜ r ≡ kindIn packed ⌝ }
 {
-    (packed % 65536) as u16
+    (packed % FLAGS_UNIT) as u16
 }
 
 pub(crate) fn flags_of(packed: u64) -> u16
     ensures { λ r. ⌜ r ≡ flagsIn packed ⌝ }
 {
-    (packed / 65536 % 65536) as u16
+    (packed / FLAGS_UNIT % FLAGS_UNIT) as u16
 }
 
 pub(crate) fn words_of(packed: u64) -> u32
     ensures { λ r. ⌜ r ≡ wordsIn packed ⌝ }
 {
-    (packed / 4_294_967_296) as u32
+    (packed / WORDS_UNIT) as u32
 }
 
 pub(crate) fn is_protected(packed: u64) -> bool
@@ -141,5 +162,5 @@ fn has_parity(flags: u16) -> bool
 pub(crate) fn plane_words(packed: u64) -> usize
     ensures { λ r. ⌜ r ≡ planeWords (rowOf packed) ⌝ }
 {
-    (words_of(packed) as usize + 7) / 8
+    (words_of(packed) as usize + (WORD - 1)) / WORD
 }

@@ -41,12 +41,12 @@ use denote.Triple.Walked.{says, Stays, stay-none-slice, gave-slice, gave-ref, wa
 use denote.Exit.{yes}
 use Rattle.paper.specs.Writer as paper
 use Rattle.writer.specs.declared.plan.Row.{Row}
-use Rattle.writer.specs.declared.room.WriteResult.{WriteResult}
+use Rattle.writer.specs.declared.sizes.WriteResult.{WriteResult}
 use Rattle.writer.specs.Answers.{asPlan, asWritten, answerOf, bytesAfter}
 use Rattle.kw.specs.Writes.{numberIn, answerIn, writeNumber, writeAnswer}
 use Rattle.writer.proofs.plan.Row as T
-use Rattle.writer.proofs.room.WriteResult as R
-use Rattle.writer.proofs.room.WriteResult.Laws as R′
+use Rattle.writer.proofs.sizes.WriteResult as R
+use Rattle.writer.proofs.sizes.WriteResult.Laws as R′
 use Rattle.writer.proofs.write as write
 use Rattle.writer.proofs.write.Symbol as write-def
 use Rattle.writer.proofs.write.Symbol.{name as #write}

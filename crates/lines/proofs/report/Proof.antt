@@ -15,7 +15,7 @@ use Rattle.view.specs.Answers.{asParsed}
 use Rattle.view.proofs.AnswersLaw.{parsed-fine, parsed-count}
 use Rattle.repair.proofs.MendingLaw.{scan-is}
 use Rattle.io.proofs.Counting.{counts}
-use Rattle.laws.proofs.PutLaw.{put-two}
+use Rattle.put.proofs.PutLaw.{put-two}
 use Rattle.paper.proofs.ProgramsLaw.{report-long, report-short}
 use Rattle.lines.proofs.TextLaw.{line-put}
 use Rattle.lines.proofs.report.Statement.{statement}

@@ -6,7 +6,7 @@ use borrow.Author.Needs.{needs}
 use lib.ListN.{length}
 use lib.Seq.{take-all}
 use Rattle.paper.specs.Mend.{mend}
-use Rattle.paper.specs.Programs.{imageOf, lineOf}
+use Rattle.paper.specs.Programs.{imageOut, lineOf}
 use Rattle.repair.specs.Answers.{asMended}
 use Rattle.repair.specs.declared.mending.MendResult.{MendResult}
 use Rattle.io.proofs.Counting.{counts}
@@ -31,7 +31,7 @@ returns-2 c =
     let m = c .before .before .before .before .before .before .before .mend in
     let e = ap (λ (r : MendResult). asMended r (m .last .0)) (sym (c .before .before .before .refusal .given .1)) ∙ m .ensures .0 in
     let l = line-put (a .out .now) _ _ (c .put-refused .ensures .0) (ap lineOf e ∙ line-short x short) in
-    let none = ap imageOf e ∙ image-short x short in
+    let none = ap imageOut e ∙ image-short x short in
     (l .0, (l .1, (m .ensures .1 ∙ left-short x short, ((ap length none, none), (counts _ _ (omega (arith, c .put-refused .ensures .1, c .put-refused .ensures .0 .long)), counts 0 (m .last .0) zero-le)))))
 
 returns-3 : tie.Need-returns-3
@@ -42,7 +42,7 @@ returns-3 c =
     let m = c .before .before .before .before .before .before .before .mend in
     let e = ap (λ (r : MendResult). asMended r (m .last .0)) (sym (c .before .before .before .mending .given .1)) ∙ m .ensures .0 in
     let l = line-put (a .out .now) _ _ (c .put-stored .ensures .0) (ap lineOf e ∙ line-short x short) in
-    let all = ap imageOf e ∙ image-short x short in
+    let all = ap imageOut e ∙ image-short x short in
     (l .0, (l .1, (m .ensures .1 ∙ left-short x short, ((ap length all, take-all (length (m .last .0)) (m .last .0) (omega arith) ∙ all), (counts _ _ (omega (arith, c .put-stored .ensures .1, c .put-stored .ensures .0 .long)), counts _ _ (omega arith))))))
 
 pub scrub-spec : {M : Type 1} → statement M

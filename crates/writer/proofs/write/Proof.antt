@@ -1,4 +1,4 @@
--- `writer::write` meets its contract: a walk of its MIR, by hand, with a loop. The plan is a local array of numbers that is lent to `take_row` in each turn, for a lifetime of the call, and comes back. In a turn the row at i is read out of the slice of structs.
+-- `writer::write` meets its contract: a walk of its MIR, by hand, with a loop. The plan is a local array of numbers that is lent to `check_row` in each turn, for a lifetime of the call, and comes back. In a turn the row at i is read out of the slice of structs.
 -- After the loop the array is lent once more, shared, and out is given up for good: what `write_plan` says of out's last bytes is what `write` says of them.
 -- Of its callees the proof knows only that they meet their contracts. The invariant: to take the rows that are left from here is to take all of them from the start. Assumes nothing.
 use mathlib.Core.Path.{_≡_, refl, sym, _∙_, ap}
@@ -55,10 +55,10 @@ use Rattle.paper.specs.Writer as paper
 use Rattle.writer.specs.declared.plan.Row.{Row}
 use Rattle.writer.specs.declared.plan.Checked.{Checked}
 use Rattle.writer.specs.declared.plan.Checked.the-variants.{Fine}
-use Rattle.writer.specs.declared.room.WriteResult.{WriteResult}
+use Rattle.writer.specs.declared.sizes.WriteResult.{WriteResult}
 use Rattle.writer.specs.Answers.{asPlan, asWritten, answerOf, bytesAfter, Answered}
 use Rattle.writer.specs.Kept.{rowsOf, keptRows, Kept, checkedVerdict}
-use Rattle.writer.specs.Taken.{takeRow, takePlan, takeRows}
+use Rattle.writer.specs.Checking.{checkRow, planAfter, checkRows}
 use Rattle.writer.proofs.Laid.{arrayTy, laid, lifted}
 use Rattle.writer.proofs.LoopLaw.{noRow, rowAt, further, over}
 use Rattle.writer.proofs.WriteLaw.{ready, answered-is}
@@ -66,16 +66,16 @@ use Rattle.writer.proofs.plan.Row as T
 use Rattle.writer.proofs.plan.Row.Laws as T′
 use Rattle.writer.proofs.plan.Checked as S
 use Rattle.writer.proofs.plan.Checked.Laws as S′
-use Rattle.writer.proofs.room.WriteResult as R
-use Rattle.writer.proofs.room.WriteResult.Laws as R′
-use Rattle.writer.proofs.plan.no_rows as none
-use Rattle.writer.proofs.plan.no_rows.Symbol as none-def
-use Rattle.writer.proofs.plan.no_rows.Symbol.{name as #no-rows}
-use Rattle.writer.proofs.plan.no_rows.Met as none-thm
-use Rattle.writer.proofs.plan.take_row as take
-use Rattle.writer.proofs.plan.take_row.Symbol as take-def
-use Rattle.writer.proofs.plan.take_row.Symbol.{name as #take-row}
-use Rattle.writer.proofs.plan.take_row.Met as take-thm
+use Rattle.writer.proofs.sizes.WriteResult as R
+use Rattle.writer.proofs.sizes.WriteResult.Laws as R′
+use Rattle.writer.proofs.plan.empty_plan as empty-plan
+use Rattle.writer.proofs.plan.empty_plan.Symbol as empty-plan-def
+use Rattle.writer.proofs.plan.empty_plan.Symbol.{name as #empty-plan}
+use Rattle.writer.proofs.plan.empty_plan.Met as empty-plan-thm
+use Rattle.writer.proofs.plan.check_row as check-row
+use Rattle.writer.proofs.plan.check_row.Symbol as check-row-def
+use Rattle.writer.proofs.plan.check_row.Symbol.{name as #check-row}
+use Rattle.writer.proofs.plan.check_row.Met as check-row-thm
 use Rattle.writer.proofs.image.write_plan as plan
 use Rattle.writer.proofs.image.write_plan.Symbol as plan-def
 use Rattle.writer.proofs.image.write_plan.Symbol.{name as #write-plan}
@@ -91,11 +91,11 @@ stayed = (stay-none-slice (0 ∷ []) tt (plain (λ _. T.the-row)) yes, (stay-non
 
 -- the contracts that the proof cites
 module _ {M : Type 1} (𝓤 : URA M) (H : Heap 𝓤) (A : Atoms 𝓤) (mem : Memory → SProp 𝓤) (run : Routine → Fun 𝓤) where
-  abbrev NoRows : Contract 𝓤
-  NoRows = tripleOf 𝓤 H A none.signature (none.spec 𝓤 H A mem run)
+  abbrev EmptyPlan : Contract 𝓤
+  EmptyPlan = tripleOf 𝓤 H A empty-plan.signature (empty-plan.spec 𝓤 H A mem run)
 
-  abbrev Take : Contract 𝓤
-  Take = tripleOf 𝓤 H A take.signature (take.spec 𝓤 H A mem run)
+  abbrev CheckRow : Contract 𝓤
+  CheckRow = tripleOf 𝓤 H A check-row.signature (check-row.spec 𝓤 H A mem run)
 
   abbrev WritePlan : Contract 𝓤
   WritePlan = tripleOf 𝓤 H A plan.signature (plan.spec 𝓤 H A mem run)
@@ -138,7 +138,7 @@ record At (ys : List Row) : Type 0 where
   mach : Val
   zs : List ℕ
   is : Is S.the-row st (mach ∷ [])
-  ran : takeRows i (dropped i ys) (st, zs) ≡ takeRows 0 ys nothingYet
+  ran : checkRows i (dropped i ys) (st, zs) ≡ checkRows 0 ys nothingYet
 
 -- the state before the first row, as a machine value
 abbrev none-mach : Val
@@ -148,7 +148,7 @@ none-is : Is S.the-row (Fine 0) (none-mach ∷ [])
 none-is = EL.owes S.the-type S′.the-laws (Fine 0) ((refl, lit< tt), tt)
 
 abbrev start : (ys : List Row) (zs : List ℕ) → zs ≡ replicate 1536 0 → At ys
-start ys zs e = record { i = 0; st = Fine 0; mach = none-mach; zs = zs; is = none-is; ran = ap (λ (l : List ℕ). takeRows 0 ys (Fine 0, l)) e }
+start ys zs e = record { i = 0; st = Fine 0; mach = none-mach; zs = zs; is = none-is; ran = ap (λ (l : List ℕ). checkRows 0 ys (Fine 0, l)) e }
 
 -- fewer rows are left
 falling : (ys : List Row) → WellFounded (λ (s t : At ys). length ys - s .i < length ys - t .i)
@@ -221,24 +221,24 @@ module _ {M : Type 1} (𝓤 : URA M) (H : Heap 𝓤) (A : Atoms 𝓤) (W : Given
   abbrev Done : WriteResult → List ℕ → Type 0
   Done r ws = (asWritten r ≡ answerOf (paper.write (asPlan ys) ps (length xs))) × (ws ≡ bytesAfter (paper.write (asPlan ys) ps (length xs)) xs)
 
-  -- ---- `no_rows`
-  abbrev to-none : NoRows 𝓤 H A mem run .Ghost
-  to-none = ((tt, tt, tt, tt, tt), tt)
+  -- ---- `empty_plan`
+  abbrev to-empty-plan : EmptyPlan 𝓤 H A mem run .Ghost
+  to-empty-plan = ((tt, tt, tt, tt, tt), tt)
 
-  none-asked : ent 𝓤 (emp 𝓤) (NoRows 𝓤 H A mem run .pre to-none)
-  none-asked = qed W [] ∵ nothing ! $ nothing ! $ join ! $ frame ! $ done !
+  empty-plan-asked : ent 𝓤 (emp 𝓤) (EmptyPlan 𝓤 H A mem run .pre to-empty-plan)
+  empty-plan-asked = qed W [] ∵ nothing ! $ nothing ! $ join ! $ frame ! $ done !
 
-  -- ---- `take_row`
+  -- ---- `check_row`
   abbrev Took : At ys → Checked → List ℕ → Type 0
-  Took t r ws = (r ≡ takeRow (t .zs) (t .st) (t .i) (rowAt ys (t .i))) × (ws ≡ takePlan (t .zs) (t .st) (t .i) (rowAt ys (t .i)))
+  Took t r ws = (r ≡ checkRow (t .zs) (t .st) (t .i) (rowAt ys (t .i))) × (ws ≡ planAfter (t .zs) (t .st) (t .i) (rowAt ys (t .i)))
 
-  -- what `take_row`'s triple binds outside: the plan lent for the lifetime ν, under the name δ
-  abbrev to-take : At ys → ℕ → ℕ → GName → Take 𝓤 H A mem run .Ghost
-  to-take t l ν δ = (((ν ∷ [], tt), (fullShare, tt), tt, (z l δ (t .zs), (t .st, (t .i, (rowAt ys (t .i), tt)))), (vptr l 0 ∷ [], (t .mach ∷ [], (vint w64 (t .i) ∷ [], (T′.lowered (rowAt ys (t .i)) ∷ [], tt))))), tt)
+  -- what `check_row`'s triple binds outside: the plan lent for the lifetime ν, under the name δ
+  abbrev to-check-row : At ys → ℕ → ℕ → GName → CheckRow 𝓤 H A mem run .Ghost
+  to-check-row t l ν δ = (((ν ∷ [], tt), (fullShare, tt), tt, (z l δ (t .zs), (t .st, (t .i, (rowAt ys (t .i), tt)))), (vptr l 0 ∷ [], (t .mach ∷ [], (vint w64 (t .i) ∷ [], (T′.lowered (rowAt ys (t .i)) ∷ [], tt))))), tt)
 
-  take-asked : (t : At ys) → t .i < 2 ^ 64 → Is T.the-row (rowAt ys (t .i)) (T′.lowered (rowAt ys (t .i)) ∷ []) → (l ν : ℕ) (δ : GName)
-      → ent 𝓤 (sep 𝓤 (A .lft (ν ∷ []) fullShare) (sem 𝓤 H A (MutRef (named 0) (ν ∷ []) Plan .own (z l δ (t .zs)) (vptr l 0 ∷ [])))) (Take 𝓤 H A mem run .pre (to-take t l ν δ))
-  take-asked t fits g l ν δ =
+  check-row-asked : (t : At ys) → t .i < 2 ^ 64 → Is T.the-row (rowAt ys (t .i)) (T′.lowered (rowAt ys (t .i)) ∷ []) → (l ν : ℕ) (δ : GName)
+      → ent 𝓤 (sep 𝓤 (A .lft (ν ∷ []) fullShare) (sem 𝓤 H A (MutRef (named 0) (ν ∷ []) Plan .own (z l δ (t .zs)) (vptr l 0 ∷ [])))) (CheckRow 𝓤 H A mem run .pre (to-check-row t l ν δ))
+  check-row-asked t fits g l ν δ =
       qed W (‵ (flft (ν ∷ []) fullShare) ∷ ‵ (MutRef (named 0) (ν ∷ []) Plan .own (z l δ (t .zs)) (vptr l 0 ∷ [])) ∷ []) ∵ nothing ! $ move ! (1 ∷ 0 ∷ []) $ join ! $
       nothing ! $ owned ! T.the-row (Is T.the-row) (LL.makes T.the-type T′.the-plain 𝓤 H A) (rowAt ys (t .i)) _ g $ fjoin ! $ owned ! usize (Is usize) (uint-makes 𝓤 H A W w64) (t .i) _ (refl, fits) $ fjoin ! $
       owned ! S.the-row (Is S.the-row) (EL.makes S.the-type S′.the-plain 𝓤 H A) (t .st) _ (t .is) $ fjoin ! $
@@ -275,7 +275,7 @@ module _ {M : Type 1} (𝓤 : URA M) (H : Heap 𝓤) (A : Atoms 𝓤) (W : Given
       suffices ! _ (ends-at 𝓤 H A write.ended stayed (write.clauses 𝓤 H A mem run) W (((κ, (κ₁, (κ₂, tt))), (q, (q₁, (q₂, tt))), tt, a, vals), tt) w r (tt, (tt, (ws, tt))) (tt, (tt, (len, tt)))) $ says ! e $
       move ! (4 ∷ 0 ∷ []) $ join ! $ frame ! $ nothing ! $ move ! (2 ∷ 0 ∷ []) $ fjoin ! $ move ! (2 ∷ 0 ∷ []) $ fjoin ! $ move ! (2 ∷ 0 ∷ []) $ fjoin ! $ frame ! $ done !
 
-  module _ (𝓣 : Tables 𝓤 H) (known-none : Triple 𝓤 (𝓣 .C #no-rows) (NoRows 𝓤 H A mem run)) (known-take : Triple 𝓤 (𝓣 .C #take-row) (Take 𝓤 H A mem run)) (known-plan : Triple 𝓤 (𝓣 .C #write-plan) (WritePlan 𝓤 H A mem run))
+  module _ (𝓣 : Tables 𝓤 H) (known-empty-plan : Triple 𝓤 (𝓣 .C #empty-plan) (EmptyPlan 𝓤 H A mem run)) (known-check-row : Triple 𝓤 (𝓣 .C #check-row) (CheckRow 𝓤 H A mem run)) (known-plan : Triple 𝓤 (𝓣 .C #write-plan) (WritePlan 𝓤 H A mem run))
       (gr : Room T.the-row n) (gp : Room u8 (length ps)) (go : Room u8 (length xs)) where
     abbrev C : Calls 𝓤 H
     C = 𝓣 .C
@@ -328,11 +328,11 @@ module _ {M : Type 1} (𝓤 : URA M) (H : Heap 𝓤) (A : Atoms 𝓤) (W : Given
           -- the context is as at the head. The plan is lent for a lifetime ν of the call
           lft-new ! tt (λ ν. move ! (7 ∷ []) $
           use1 W (later (some (λ (δ : GName). ‵ (MutRef (named 0) (ν ∷ []) Plan .own (z l₄ δ (t .zs)) (vptr l₄ 0 ∷ [])) ⊛ ‵ (flent (ν ∷ []) (Body (memOf Plan) l₄ 0 δ))))) (lends-ref 𝓤 H A W Plan (named 0) (ν ∷ []) (t .zs) l₄ 0) $ await ! tt $ pick ! (λ δ. split ! $
-          move ! (2 ∷ 0 ∷ []) $ use2 W (raw (Take 𝓤 H A mem run .pre (to-take t l₄ ν δ))) (take-asked t (row-fits (t .i) n l (gr .0)) g l₄ ν δ) $
-          calls-at ! (fmOf 𝓤 H (W .laws) 𝓣) (Take 𝓤 H A mem run) known-take (to-take t l₄ ν δ) (and-then ! (load ! (from ! (stop !)) (look ! 12 refl)) (and-then ! (load ! (from ! (stop !)) (look ! 8 refl)) (and-then ! (load ! (from ! (stop !)) (look ! 9 refl)) (and-then ! (load ! (from ! (stop !)) (look ! 14 refl)) (no-more !))))) (λ w.
-          use1 W (later (some (λ (r : Checked). ((‵ (flft (ν ∷ []) fullShare) ⊛ ‵ ftrue) ⊛ ‵ (S.the-row .own r (w ∷ []))) ⊛ raw (ensured 𝓤 H A take.ended (take.clauses 𝓤 H A mem run) (ν ∷ [], tt) (z l₄ δ (t .zs), (t .st, (t .i, (rowAt ys (t .i), tt)))) tt r)))) (id⊢ 𝓤 _) $ await ! tt $ pick ! (λ r.
-          -- what `take_row` ensures, at some last list
-          split ! $ move ! (1 ∷ []) $ use1 W (some (λ (ws : List ℕ × (Unit {0} × (Unit {0} × (Unit {0} × Unit {0})))). ‵ (lasts take.ended (ν ∷ [], tt) (z l₄ δ (t .zs), (t .st, (t .i, (rowAt ys (t .i), tt)))) ws) ⊛ raw (fact 𝓤 (Took t r (ws .0))))) (id⊢ 𝓤 _) $ pick ! (λ ws.
+          move ! (2 ∷ 0 ∷ []) $ use2 W (raw (CheckRow 𝓤 H A mem run .pre (to-check-row t l₄ ν δ))) (check-row-asked t (row-fits (t .i) n l (gr .0)) g l₄ ν δ) $
+          calls-at ! (fmOf 𝓤 H (W .laws) 𝓣) (CheckRow 𝓤 H A mem run) known-check-row (to-check-row t l₄ ν δ) (and-then ! (load ! (from ! (stop !)) (look ! 12 refl)) (and-then ! (load ! (from ! (stop !)) (look ! 8 refl)) (and-then ! (load ! (from ! (stop !)) (look ! 9 refl)) (and-then ! (load ! (from ! (stop !)) (look ! 14 refl)) (no-more !))))) (λ w.
+          use1 W (later (some (λ (r : Checked). ((‵ (flft (ν ∷ []) fullShare) ⊛ ‵ ftrue) ⊛ ‵ (S.the-row .own r (w ∷ []))) ⊛ raw (ensured 𝓤 H A check-row.ended (check-row.clauses 𝓤 H A mem run) (ν ∷ [], tt) (z l₄ δ (t .zs), (t .st, (t .i, (rowAt ys (t .i), tt)))) tt r)))) (id⊢ 𝓤 _) $ await ! tt $ pick ! (λ r.
+          -- what `check_row` ensures, at some last list
+          split ! $ move ! (1 ∷ []) $ use1 W (some (λ (ws : List ℕ × (Unit {0} × (Unit {0} × (Unit {0} × Unit {0})))). ‵ (lasts check-row.ended (ν ∷ [], tt) (z l₄ δ (t .zs), (t .st, (t .i, (rowAt ys (t .i), tt)))) ws) ⊛ raw (fact 𝓤 (Took t r (ws .0))))) (id⊢ 𝓤 _) $ pick ! (λ ws.
           split ! $ move ! (1 ∷ []) $ heard ! (Took t r (ws .0)) (λ e. fsplit ! $
           move ! (2 ∷ []) $ split ! $ move ! (1 ∷ []) $ peeks ! S.the-row (Is S.the-row) (shows 𝓤 H A S.the-row) r (w ∷ []) (λ is.
           -- [the result; ν's token; the last list; …; the lender's part; the context at the head, without the plan]
@@ -384,7 +384,7 @@ module _ {M : Type 1} (𝓤 : URA M) (H : Heap 𝓤) (A : Atoms 𝓤) (W : Given
           move ! (23 ∷ 24 ∷ []) $ free1 ! $ move ! (15 ∷ 23 ∷ []) $ free1 ! $ move ! (15 ∷ 22 ∷ []) $ free1 ! $ move ! (15 ∷ 21 ∷ []) $ free1 ! $ move ! (0 ∷ 20 ∷ []) $ free1 ! $ move ! (7 ∷ 19 ∷ []) $ free1 ! $ move ! (7 ∷ 18 ∷ []) $ free1 ! $ move ! (12 ∷ 17 ∷ []) $ free1 ! $ move ! (7 ∷ 16 ∷ []) $ free1 ! $ move ! (7 ∷ 15 ∷ []) $ free1 ! $ move ! (7 ∷ 14 ∷ []) $ free1 ! $ move ! (7 ∷ 13 ∷ []) $ free1 ! $ move ! (7 ∷ 12 ∷ []) $ free1 ! $ move ! (7 ∷ 11 ∷ []) $ free1 ! $ move ! (7 ∷ 10 ∷ []) $ free1 ! $ move ! (7 ∷ 9 ∷ []) $ free1 ! $ move ! (7 ∷ 8 ∷ []) $ free1 ! $ free0 ! $
           keep ! (0 ∷ 1 ∷ 2 ∷ 4 ∷ 5 ∷ 6 ∷ []) $ by ! (exits r w (ws .1 .1 .1 .1 .0) len (answered-is ys (t .st) (t .zs) (gr .1) all-ran ps xs e)))))))))))
         where
-          all-ran : (t .st, t .zs) ≡ takeRows 0 ys nothingYet
+          all-ran : (t .st, t .zs) ≡ checkRows 0 ys nothingYet
           all-ran = sym (over ys (t .i) (t .st, t .zs) l) ∙ t .ran
 
       turns : (t : At ys) (c : Bool) → ltb (t .i) n ≡ c → Sq W (I t) (runs C Λ En turn-1 (Turned t))
@@ -407,9 +407,9 @@ module _ {M : Type 1} (𝓤 : URA M) (H : Heap 𝓤) (A : Atoms 𝓤) (W : Given
       -- up to the loop
       begun : Sq W Stored (runs C Λ En (code.function .body) (atRet En Post))
       begun =
-          use0 W (raw (NoRows 𝓤 H A mem run .pre to-none)) none-asked $ calls-at ! (fmOf 𝓤 H (W .laws) 𝓣) (NoRows 𝓤 H A mem run) known-none to-none (no-more !) (λ w.
-          use1 W (later (some (λ (r : List ℕ). (‵ ftrue ⊛ ‵ (Plan .own r (w ∷ []))) ⊛ raw (ensured 𝓤 H A none.ended (none.clauses 𝓤 H A mem run) tt tt tt r)))) (id⊢ 𝓤 _) $ await ! tt $ pick ! (λ r.
-          split ! $ move ! (1 ∷ []) $ use1 W (some (λ (ws : Unit {0}). ‵ (lasts none.ended tt tt ws) ⊛ raw (fact 𝓤 (r ≡ replicate 1536 0)))) (id⊢ 𝓤 _) $ pick ! (λ ws.
+          use0 W (raw (EmptyPlan 𝓤 H A mem run .pre to-empty-plan)) empty-plan-asked $ calls-at ! (fmOf 𝓤 H (W .laws) 𝓣) (EmptyPlan 𝓤 H A mem run) known-empty-plan to-empty-plan (no-more !) (λ w.
+          use1 W (later (some (λ (r : List ℕ). (‵ ftrue ⊛ ‵ (Plan .own r (w ∷ []))) ⊛ raw (ensured 𝓤 H A empty-plan.ended (empty-plan.clauses 𝓤 H A mem run) tt tt tt r)))) (id⊢ 𝓤 _) $ await ! tt $ pick ! (λ r.
+          split ! $ move ! (1 ∷ []) $ use1 W (some (λ (ws : Unit {0}). ‵ (lasts empty-plan.ended tt tt ws) ⊛ raw (fact 𝓤 (r ≡ replicate 1536 0)))) (id⊢ 𝓤 _) $ pick ! (λ ws.
           split ! $ move ! (1 ∷ []) $ heard ! (r ≡ replicate 1536 0) (λ e. drop ! $ split ! $ drop ! $ peeks ! Plan (Is Plan) (shows 𝓤 H A Plan) r (w ∷ []) (λ is.
           -- [what the array owns; the context as it was]
           land ! (from ! (stop !)) (init ! 19 refl (array-lawful 𝓤 H A W u64 (uint-lawful 𝓤 H A W w64) 1536 .typed r _ is .0)) $
@@ -429,7 +429,7 @@ module _ {M : Type 1} (𝓤 : URA M) (H : Heap 𝓤) (A : Atoms 𝓤) (W : Given
         begun l₀ l₁ l₂ l₃ l₄ l₅ l₆ l₇ l₈ l₉ l₁₀ l₁₁ l₁₂ l₁₃ l₁₄ l₁₅ l₁₆)))))))))))))))))
 
 module _ {M : Type 1} (𝓤 : URA M) (H : Heap 𝓤) (A : Atoms 𝓤) (W : Given 𝓤 H A) (mem : Memory → SProp 𝓤) (run : Routine → Fun 𝓤) where
-  write-walks : (𝓣 : Tables 𝓤 H) → Triple 𝓤 (𝓣 .C #no-rows) (NoRows 𝓤 H A mem run) → Triple 𝓤 (𝓣 .C #take-row) (Take 𝓤 H A mem run) → Triple 𝓤 (𝓣 .C #write-plan) (WritePlan 𝓤 H A mem run)
+  write-walks : (𝓣 : Tables 𝓤 H) → Triple 𝓤 (𝓣 .C #empty-plan) (EmptyPlan 𝓤 H A mem run) → Triple 𝓤 (𝓣 .C #check-row) (CheckRow 𝓤 H A mem run) → Triple 𝓤 (𝓣 .C #write-plan) (WritePlan 𝓤 H A mem run)
       → Walks 𝓤 H A write.ended stayed (WpFn 𝓤 H (𝓣 .C) (𝓣 .Λ) code.function) (write.clauses 𝓤 H A mem run)
   write-walks 𝓣 kn kt kp = walked 𝓤 H A write.ended stayed (write.clauses 𝓤 H A mem run) (WpFn 𝓤 H (𝓣 .C) (𝓣 .Λ) code.function) (λ κs. (slice-vals, (slice-vals, (slice-vals, tt))))
       (λ κs. (shr-slice-tells (named 0) (κs .0) T.the-row, (shr-slice-tells (named 1) (κs .1 .0) u8, (mut-slice-tells (named 2) (κs .1 .1 .0) u8, tt))))
@@ -438,7 +438,7 @@ module _ {M : Type 1} (𝓤 : URA M) (H : Heap 𝓤) (A : Atoms 𝓤) (W : Given
       (a .1 .1 .0 .ptr .0) (a .1 .1 .0 .ptr .1) (a .1 .1 .0 .name) (a .1 .1 .0 .now) 𝓣 kn kt kp (are .0 .0 .1) (are .1 .0 .0 .1) (are .1 .1 .0 .0 .1)))
 
 write-meets : {M : Type 1} (𝓤 : URA M) (H : Heap 𝓤) (A : Atoms 𝓤) → Given 𝓤 H A → (mem : Memory → SProp 𝓤) (run : Routine → Fun 𝓤) (𝓣 : Tables 𝓤 H)
-    → Triple 𝓤 (𝓣 .C #no-rows) (NoRows 𝓤 H A mem run) → Triple 𝓤 (𝓣 .C #take-row) (Take 𝓤 H A mem run) → Triple 𝓤 (𝓣 .C #write-plan) (WritePlan 𝓤 H A mem run)
+    → Triple 𝓤 (𝓣 .C #empty-plan) (EmptyPlan 𝓤 H A mem run) → Triple 𝓤 (𝓣 .C #check-row) (CheckRow 𝓤 H A mem run) → Triple 𝓤 (𝓣 .C #write-plan) (WritePlan 𝓤 H A mem run)
     → Meets 𝓤 H A write.signature (WpFn 𝓤 H (𝓣 .C) (𝓣 .Λ) code.function) (write.spec 𝓤 H A mem run)
 write-meets 𝓤 H A W mem run 𝓣 kn kt kp =
     walk-meets 𝓤 H A write.ended stayed W (goes-none-slice 𝓤 H A W 3 (0 ∷ []) tt (plain (λ _. T.the-row)) yes, (goes-none-slice 𝓤 H A W 3 (1 ∷ []) tt (plain (λ _. u8)) yes, (goes-gave-slice 𝓤 H A W 3 2 tt (plain (λ _. u8)), tt)))
@@ -450,6 +450,6 @@ write-spec 𝓤 H 𝓜 𝓖 𝓡 =
     entered 𝓤 H (tripleOf 𝓤 H (𝓖 .A) write.signature (write.spec 𝓤 H (𝓖 .A) (𝓜 .mem) (𝓡 .run)))
     (tables 𝓤 H 𝓜 𝓡 code.env .C) (tables 𝓤 H 𝓜 𝓡 code.env .Λ) #write code.function (code.unfolded 𝓤 H 𝓜 𝓡)
     (write-meets 𝓤 H (𝓖 .A) (givenOf 𝓤 H 𝓜 𝓖) (𝓜 .mem) (𝓡 .run) (tablesOf 𝓤 H 𝓜 (tables 𝓤 H 𝓜 𝓡 code.env))
-    (cited 𝓤 H (NoRows 𝓤 H (𝓖 .A) (𝓜 .mem) (𝓡 .run)) 𝓜 𝓡 code.env #no-rows none-def.routine code.calls-writer·plan·no-rows (none-thm.met 𝓤 H 𝓜 𝓖 𝓡))
-    (cited 𝓤 H (Take 𝓤 H (𝓖 .A) (𝓜 .mem) (𝓡 .run)) 𝓜 𝓡 code.env #take-row take-def.routine code.calls-writer·plan·take-row (take-thm.met 𝓤 H 𝓜 𝓖 𝓡))
+    (cited 𝓤 H (EmptyPlan 𝓤 H (𝓖 .A) (𝓜 .mem) (𝓡 .run)) 𝓜 𝓡 code.env #empty-plan empty-plan-def.routine code.calls-writer·plan·empty-plan (empty-plan-thm.met 𝓤 H 𝓜 𝓖 𝓡))
+    (cited 𝓤 H (CheckRow 𝓤 H (𝓖 .A) (𝓜 .mem) (𝓡 .run)) 𝓜 𝓡 code.env #check-row check-row-def.routine code.calls-writer·plan·check-row (check-row-thm.met 𝓤 H 𝓜 𝓖 𝓡))
     (cited 𝓤 H (WritePlan 𝓤 H (𝓖 .A) (𝓜 .mem) (𝓡 .run)) 𝓜 𝓡 code.env #write-plan plan-def.routine code.calls-writer·image·write-plan (plan-thm.met 𝓤 H 𝓜 𝓖 𝓡)))

@@ -9,7 +9,7 @@ use Rattle.paper.specs.Writer.{Row, rowEntries, planeEntries, entriesBytes}
 use Rattle.paper.specs.Bytes.{thrice}
 use Rattle.paper.proofs.BytesLaw.{length-thrice}
 use Rattle.writer.specs.Kept.{rowsOf}
-use Rattle.laws.proofs.PutLaw.{begin, go-on, last}
+use Rattle.put.proofs.PutLaw.{begin, go-on, last}
 use borrow.Author.Needs.{needs}
 use Rattle.writer.proofs.image.put_directories.Statement.{statement}
 use Rattle.writer.proofs.image.put_directories.Tie as tie

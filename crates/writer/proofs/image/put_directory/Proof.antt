@@ -9,7 +9,7 @@ use Rattle.paper.specs.Layout.{Entry}
 use Rattle.paper.specs.Writer.{Row, rowEntries, planeEntries, entriesBytes}
 use Rattle.laws.proofs.AppendLaw.{entriesBytes-append}
 use Rattle.writer.specs.Kept.{rowsOf}
-use Rattle.laws.proofs.PutLaw.{Going, begin, go-on, last}
+use Rattle.put.proofs.PutLaw.{Going, begin, go-on, last}
 use borrow.Author.Needs.{needs}
 use Rattle.writer.proofs.image.put_directory.Statement.{statement}
 use Rattle.writer.proofs.image.put_directory.Tie as tie

@@ -1,105 +1,107 @@
 -- `writer::image::put_image` meets its contract. Assumes nothing.
 use mathlib.Core.Path.{_≡_, sym, ap, ap₂, _∙_, subst}
-use Prim.Native.Nat.{ℕ, _*_}
+use Prim.Native.Nat.{ℕ, _*_, _/_}
 use native.Mathlib.Omega.{arith}
 use denote.Ref.{now}
 use lib.ListN.{length}
 use mathlib.Core.List.{List, _++_}
 use Rattle.paper.specs.Bytes.{thrice}
-use Rattle.paper.specs.Writer.{Row, prologueBytes, planesBytes, imageOf, imageLength}
+use Rattle.paper.specs.Writer.{Row, regions, firstWord, planDirectory, entriesBytes, prologueBytes, planesBytes, planImage, imageLength}
 use Rattle.paper.proofs.BytesLaw.{length-thrice}
 use Rattle.laws.proofs.PlanPairs.{length-planes}
 use Rattle.writer.specs.Kept.{rowsOf}
-use Rattle.laws.specs.Put.{Put}
+use Rattle.put.specs.Put.{Put}
 use Rattle.writer.proofs.ImageLaw.{copyOf, copy-is, copy-length, prologues-length, image-length}
-use Rattle.laws.proofs.PutLaw.{begin, go-on, last}
+use Rattle.put.proofs.PutLaw.{begin, go-on, last}
 use borrow.Author.Needs.{needs}
 use Rattle.writer.proofs.image.put_image.Statement.{statement}
 use Rattle.writer.proofs.image.put_image.Tie as tie
 
 put-prologues-requires : tie.Need-put-prologues-requires
 unfolding imageLength
-put-prologues-requires c κs = let g = c .before .before .before .before in
-    let s = g .pre in
-    let rs : List Row = rowsOf (now (g .args .rows)) in
-    let payload : List ℕ = now (g .args .payload) in
-    let n : ℕ = g .args .regions in
-    omega (arith, s .room)
+put-prologues-requires c κs = omega (arith, c .before .before .before .before .pre .room)
+
+cast-first-word : tie.Need-cast-first-word
+cast-first-word c = omega (arith, c .header-length .ensures, c .before .before .before .before .before .before .before .before .pre .small)
+
+-- ---- once the rows' words are counted
+
+abbrev start : tie.After-row-words → tie.Start
+start c = c .before .before .before .before .before .before .before .before .before
+
+abbrev rs : tie.After-row-words → List Row
+rs c = rowsOf (now (start c .args .rows))
+
+-- one copy of the directory
+abbrev copy : tie.After-row-words → List ℕ
+copy c = copyOf (c .before .header-length .result / 8) (c .row-words .result) (rs c)
+
+first-word : (c : tie.After-row-words) → c .before .header-length .result / 8 ≡ firstWord (rs c)
+first-word c = omega (arith, c .before .header-length .ensures, start c .pre .counted)
+
+copied : (c : tie.After-row-words) → copy c ≡ entriesBytes (planDirectory (rs c))
+copied c = copy-is _ _ (rs c) (first-word c) (c .row-words .ensures .0)
+
+long : (c : tie.After-row-words) → length (copy c) ≡ 16 * regions (rs c)
+long c = ap length (copied c) ∙ copy-length (rs c)
+
+long-thrice : (c : tie.After-row-words) → length (thrice (copy c)) ≡ 3 * (16 * regions (rs c))
+long-thrice c = length-thrice (copy c) (16 * regions (rs c)) (long c)
 
 cast-plane-word : tie.Need-cast-plane-word
 unfolding imageLength
-cast-plane-word c = let g = c .before .before .before .before .before .before .before .before in
-    let s = g .pre in
-    let rs : List Row = rowsOf (now (g .args .rows)) in
-    let payload : List ℕ = now (g .args .payload) in
-    let n : ℕ = g .args .regions in
-    omega (arith, s .fits, c .row-words .ensures .0)
+cast-plane-word c = omega (arith, start c .pre .fits, c .row-words .ensures .0)
 
 add-plane-word : tie.Need-add-plane-word
 unfolding imageLength
-add-plane-word c = let g = c .before .before .before .before .before .before .before .before in
-    let s = g .pre in
-    let rs : List Row = rowsOf (now (g .args .rows)) in
-    let payload : List ℕ = now (g .args .payload) in
-    let n : ℕ = g .args .regions in
-    omega (arith, s .fits, s .counted, c .row-words .ensures .0)
+add-plane-word c = omega (arith, start c .pre .fits, first-word c, c .row-words .ensures .0)
 
 put-directories-requires : tie.Need-put-directories-requires
 unfolding imageLength
-put-directories-requires c κs = let g = c .before .before .before .before .before .before .before .before .before in
-    let s = g .pre in
-    let rs : List Row = rowsOf (now (g .args .rows)) in
-    let payload : List ℕ = now (g .args .payload) in
-    let n : ℕ = g .args .regions in
-    let w : ℕ = c .before .row-words .result in
-    let l : length (copyOf n w rs) ≡ 16 * n = ap length (copy-is n w rs (s .counted) (c .before .row-words .ensures .0)) ∙ copy-length rs ∙ ap (λ (m : ℕ). 16 * m) (sym (s .counted)) in (
-      omega (arith, l, s .room, s .counted, c .before .before .before .before .put-prologues .ensures .behind, c .before .before .before .before .put-prologues .ensures .long, prologues-length n),
-      omega (arith, s .fits, s .counted),
-      omega (arith, s .fits, s .counted, c .before .row-words .ensures .0),
+put-directories-requires c κs =
+    let d = c .before in
+    let s = start d .pre in
+    let p = d .before .before .before .before .put-prologues .ensures in (
+      omega (arith, long d, s .room, p .behind, p .long, prologues-length (start d .args .regions) 0),
+      omega (arith, s .fits, first-word d),
+      omega (arith, s .fits, first-word d, d .row-words .ensures .0),
       s .lowKinds,
     )
 
 put-bytes-requires : tie.Need-put-bytes-requires
 unfolding imageLength
-put-bytes-requires c κs = let g = c .before .before .before .before .before .before .before .before .before .before .before .before .before in
-    let s = g .pre in
-    let rs : List Row = rowsOf (now (g .args .rows)) in
-    let payload : List ℕ = now (g .args .payload) in
-    let n : ℕ = g .args .regions in
-    let w : ℕ = c .before .before .before .before .before .row-words .result in
-    let l : length (copyOf n w rs) ≡ 16 * n = ap length (copy-is n w rs (s .counted) (c .before .before .before .before .before .row-words .ensures .0)) ∙ copy-length rs ∙ ap (λ (m : ℕ). 16 * m) (sym (s .counted)) in
-    let l3 : length (thrice (copyOf n w rs)) ≡ 3 * (16 * n) = length-thrice (copyOf n w rs) (16 * n) l in
-    omega (arith, l3, s .room, s .counted, s .full, c .before .before .before .put-directories .ensures .behind, c .before .before .before .put-directories .ensures .long, c .before .before .before .before .before .before .before .before .put-prologues .ensures .behind, c .before .before .before .before .before .before .before .before .put-prologues .ensures .long, prologues-length n)
+put-bytes-requires c κs =
+    let d = c .before .before .before .before .before in
+    let s = start d .pre in
+    let p = d .before .before .before .before .put-prologues .ensures in
+    let q = c .before .before .before .put-directories .ensures in
+    omega (arith, long-thrice d, s .room, s .full, q .behind, q .long, p .behind, p .long, prologues-length (start d .args .regions) 0)
 
 put-planes-requires : tie.Need-put-planes-requires
 unfolding imageLength
-put-planes-requires c κs = let g = c .before .before .before .before .before .before .before .before .before .before .before .before .before .before .before .before .before in
-    let s = g .pre in
-    let rs : List Row = rowsOf (now (g .args .rows)) in
-    let payload : List ℕ = now (g .args .payload) in
-    let n : ℕ = g .args .regions in
-    let w : ℕ = c .before .before .before .before .before .before .before .before .before .row-words .result in
-    let l : length (copyOf n w rs) ≡ 16 * n = ap length (copy-is n w rs (s .counted) (c .before .before .before .before .before .before .before .before .before .row-words .ensures .0)) ∙ copy-length rs ∙ ap (λ (m : ℕ). 16 * m) (sym (s .counted)) in
-    let l3 : length (thrice (copyOf n w rs)) ≡ 3 * (16 * n) = length-thrice (copyOf n w rs) (16 * n) l in
-    (omega (arith, l3, s .room, s .counted, s .full, c .before .before .before .put-bytes .ensures .behind, c .before .before .before .put-bytes .ensures .long, c .before .before .before .before .before .before .before .put-directories .ensures .behind, c .before .before .before .before .before .before .before .put-directories .ensures .long, c .before .before .before .before .before .before .before .before .before .before .before .before .put-prologues .ensures .behind, c .before .before .before .before .before .before .before .before .before .before .before .before .put-prologues .ensures .long, prologues-length n, length-planes rs payload), s .full)
+put-planes-requires c κs =
+    let d = c .before .before .before .before .before .before .before .before .before in
+    let s = start d .pre in
+    let p = d .before .before .before .before .put-prologues .ensures in
+    let q = c .before .before .before .before .before .before .before .put-directories .ensures in
+    let b = c .before .before .before .put-bytes .ensures in
+    (omega (arith, long-thrice d, s .room, s .full, b .behind, b .long, q .behind, q .long, p .behind, p .long, prologues-length (start d .args .regions) 0, length-planes (rs d) (now (start d .args .payload))), s .full)
 
 returns : tie.Need-returns
-unfolding imageOf
-returns c = let g = c .before .before .before .before .before .before .before .before .before .before .before .before .before .before .before .before .before .before .before .before in
-    let s = g .pre in
-    let rs : List Row = rowsOf (now (g .args .rows)) in
-    let payload : List ℕ = now (g .args .payload) in
-    let n : ℕ = g .args .regions in
-    let w : ℕ = c .before .before .before .before .before .before .before .before .before .before .before .before .row-words .result in
-    let o : List ℕ = now (g .args .out) in
-    let a : List ℕ = thrice (prologueBytes n) in
-    let d : List ℕ = thrice (copyOf n w rs) in
-    let q : List ℕ = planesBytes rs payload in
-    let e : a ++ (d ++ (payload ++ q)) ≡ imageOf rs payload =
-    ap₂ (λ (m : ℕ) (x : List ℕ). thrice (prologueBytes m) ++ (thrice x ++ (payload ++ q))) (s .counted) (copy-is n w rs (s .counted) (c .before .before .before .before .before .before .before .before .before .before .before .before .row-words .ensures .0)) in
-    let g0 = begin o 0 (a ++ (d ++ (payload ++ q))) (omega (arith, s .room, ap length e, image-length rs payload (s .full))) in
-    let g1 = go-on _ _ a (d ++ (payload ++ q)) g0 (c .before .before .before .before .before .before .before .before .before .before .before .before .before .before .before .put-prologues .ensures) in
-    let g2 = go-on _ _ d (payload ++ q) g1 (c .before .before .before .before .before .before .before .before .before .before .put-directories .ensures) in
+unfolding planImage
+returns c =
+    let d = c .before .before .before .before .before .before .before .before .before .before .before .before in
+    let s = start d .pre in
+    let payload : List ℕ = now (start d .args .payload) in
+    let n : ℕ = start d .args .regions in
+    let o : List ℕ = now (start d .args .out) in
+    let a : List ℕ = thrice (prologueBytes n 0) in
+    let q : List ℕ = planesBytes (rs d) payload in
+    let e : a ++ (thrice (copy d) ++ (payload ++ q)) ≡ planImage (rs d) payload =
+    ap₂ (λ (m : ℕ) (x : List ℕ). thrice (prologueBytes m 0) ++ (thrice x ++ (payload ++ q))) (s .counted) (copied d) in
+    let g0 = begin o 0 (a ++ (thrice (copy d) ++ (payload ++ q))) (omega (arith, s .room, ap length e, image-length (rs d) payload (s .full))) in
+    let g1 = go-on _ _ a (thrice (copy d) ++ (payload ++ q)) g0 (d .before .before .before .before .put-prologues .ensures) in
+    let g2 = go-on _ _ (thrice (copy d)) (payload ++ q) g1 (c .before .before .before .before .before .before .before .before .before .before .put-directories .ensures) in
     let g3 = go-on _ _ payload q g2 (c .before .before .before .before .before .before .put-bytes .ensures) in
     subst (λ (x : List ℕ). Put o 0 x (c .before .before .put-planes .result) (c .before .before .put-planes .last .0)) e (last _ _ q g3 (c .before .before .put-planes .ensures))
 
@@ -109,9 +111,8 @@ put-image-spec =
     (tie.spec
     (λ c. search needs)
     put-prologues-requires
-    (λ c. search needs)
-    (λ c. search needs)
-    (λ c. search needs)
+    (λ c κs. search needs)
+    cast-first-word
     (λ c κs. search needs)
     cast-plane-word
     add-plane-word

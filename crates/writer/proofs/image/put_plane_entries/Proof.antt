@@ -9,7 +9,7 @@ use mathlib.Core.List.{List}
 use mathlib.Core.Logic.{⊎-elim}
 use Rattle.paper.specs.Writer.{flagged, planeWords, planeEntry}
 use Rattle.writer.specs.Kept.{kindIn, rowOf}
-use Rattle.laws.proofs.PutLaw.{kept-length, carry}
+use Rattle.put.proofs.PutLaw.{kept-length, carry}
 use Rattle.writer.proofs.EntriesLaw.{PlanesGo, planes-start, plane-room, plane-word, plane-put, plane-skip, planes-done}
 use Rattle.writer.proofs.image.put_plane_entries.Statement.{statement}
 use Rattle.writer.proofs.image.put_plane_entries.Tie as tie

@@ -11,8 +11,8 @@ use Rattle.paper.specs.Writer.{flagged, planeWords, planeBytes}
 use Rattle.paper.proofs.BytesLaw.{part-to-end}
 use Rattle.laws.proofs.PlanPairs.{length-plane}
 use Rattle.writer.specs.Kept.{wordsIn, rowOf}
-use Rattle.laws.specs.Put.{Put}
-use Rattle.laws.proofs.PutLaw.{kept-length, carry}
+use Rattle.put.specs.Put.{Put}
+use Rattle.put.proofs.PutLaw.{kept-length, carry}
 use Rattle.writer.proofs.EntriesLaw.{ChecksGo, checks-start, data-left, checks-room, checks-put, checks-skip, checks-done}
 use Rattle.writer.proofs.image.put_planes.Statement.{statement}
 use Rattle.writer.proofs.image.put_planes.Tie as tie

@@ -3,7 +3,7 @@ use Prim.Native.Nat.{_-_}
 use native.Mathlib.Omega.{arith}
 use borrow.Author.Needs.{needs}
 use lib.ListN.{length}
-use Rattle.laws.proofs.PutLaw.{kept-length}
+use Rattle.put.proofs.PutLaw.{kept-length}
 use Rattle.writer.proofs.EntriesLaw.{RowsGo, rows-start, row-room, row-word, row-put, rows-done}
 use Rattle.writer.proofs.image.put_row_entries.Statement.{statement}
 use Rattle.writer.proofs.image.put_row_entries.Tie as tie

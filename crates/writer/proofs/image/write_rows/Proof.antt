@@ -7,21 +7,21 @@ use mathlib.Core.List.{List}
 use Rattle.paper.specs.Refusals.{fine}
 use Rattle.paper.specs.Writer.{Row}
 use Rattle.writer.specs.Kept.{rowsOf, sizesVerdict}
-use Rattle.writer.proofs.AnswerLaw.{judged-fine, fine-full, fine-small, fine-room, answered-refused, answered-written}
+use Rattle.writer.proofs.AnswerLaw.{verdict-fine, fine-full, fine-small, fine-room, answered-refused, answered-written}
 use Rattle.writer.proofs.ImageLaw.{image-length}
 use borrow.Author.Needs.{needs}
 use Rattle.writer.proofs.image.write_rows.Statement.{statement}
 use Rattle.writer.proofs.image.write_rows.Tie as tie
 
 returns : tie.Need-returns
-returns c = answered-refused _ _ _ _ _ _ _ (c .before .before .judge .ensures) (c .enum-told2 .given .1)
+returns c = answered-refused _ _ _ _ _ _ _ (c .before .before .check-sizes .ensures) (c .enum-told2 .given .1)
 
 put-image-requires : tie.Need-put-image-requires
 put-image-requires c κs =
     let g = c .before .before .before .before .before .before .before in
     let rs : List Row = rowsOf (now (g .args .rows)) in
     let payload : List ℕ = now (g .args .payload) in
-    let e : sizesVerdict rs payload (length (now (g .args .out))) ≡ fine = judged-fine _ _ _ _ (c .before .before .before .judge .ensures) (c .before .enum-told .given .1) in
+    let e : sizesVerdict rs payload (length (now (g .args .out))) ≡ fine = verdict-fine _ _ _ _ (c .before .before .before .check-sizes .ensures) (c .before .enum-told .given .1) in
     record {
       few = g .pre .0;
       small = g .pre .1;
@@ -37,8 +37,8 @@ returns-2 c =
     let g = c .before .before .before .before .before .before .before .before .before .before in
     let rs : List Row = rowsOf (now (g .args .rows)) in
     let payload : List ℕ = now (g .args .payload) in
-    let e : sizesVerdict rs payload (length (now (g .args .out))) ≡ fine = judged-fine _ _ _ _ (c .before .before .before .before .before .before .judge .ensures) (c .before .before .before .before .enum-told .given .1) in
-    answered-written rs payload (now (g .args .out)) _ _ _ _ (c .before .before .before .before .before .before .judge .ensures) (c .before .before .before .before .enum-told .given .1)
+    let e : sizesVerdict rs payload (length (now (g .args .out))) ≡ fine = verdict-fine _ _ _ _ (c .before .before .before .before .before .before .check-sizes .ensures) (c .before .before .before .before .enum-told .given .1) in
+    answered-written rs payload (now (g .args .out)) _ _ _ _ (c .before .before .before .before .before .before .check-sizes .ensures) (c .before .before .before .before .enum-told .given .1)
     (image-length rs payload (fine-full rs payload (length (now (g .args .out))) e)) (fine-room rs payload (length (now (g .args .out))) e) (c .before .before .put-image .ensures)
 
 pub write-rows-spec : {M : Type 1} → statement M

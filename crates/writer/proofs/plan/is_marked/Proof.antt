@@ -7,7 +7,7 @@ use lib.Bits.{bitAnd}
 use lib.Dec.{eqb}
 use lib.ListN.{getD}
 use Rattle.layout.proofs.FlagLaw.{flag}
-use Rattle.writer.specs.Taken.{marked}
+use Rattle.writer.specs.Checking.{marked}
 use borrow.Author.Needs.{needs}
 use Rattle.writer.proofs.plan.is_marked.Statement.{statement}
 use Rattle.writer.proofs.plan.is_marked.Tie as tie

@@ -4,7 +4,7 @@ use Prim.Native.Nat.{ℕ, _/_}
 use denote.Ref.{now}
 use lib.Bits.{bitOr}
 use lib.ListN.{getD, set}
-use Rattle.writer.specs.Taken.{withMark}
+use Rattle.writer.specs.Checking.{withMark}
 use borrow.Author.Needs.{needs}
 use Rattle.writer.proofs.plan.mark.Statement.{statement}
 use Rattle.writer.proofs.plan.mark.Tie as tie

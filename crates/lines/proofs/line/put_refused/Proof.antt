@@ -1,0 +1,39 @@
+-- `lines::line::put_refused` meets its contract: two fields and the line end. Assumes nothing.
+use mathlib.Core.Path.{ap₂, subst}
+use mathlib.Core.List.{List}
+use Prim.Native.Nat.{ℕ}
+use Rattle.put.specs.Put.{Put}
+use native.Mathlib.Omega.{arith}
+use borrow.Author.Needs.{needs}
+use Rattle.paper.specs.Programs.{text, field, refusedLine}
+use Rattle.put.proofs.PutLaw.{put-two}
+use Rattle.lines.proofs.line.put_refused.Statement.{statement}
+use Rattle.lines.proofs.line.put_refused.Tie as tie
+
+returns : tie.Need-returns
+unfolding refusedLine field text
+returns c =
+    let out = c .before .before .before .before .before .before .before .before .before .before .before .before .before .before .before .before .before .before .args .out .now in
+    let number = c .before .before .before .before .before .before .before .before .before .before .before .before .before .put-field in
+    let detail = c .before .before .before .before .before .before .before .put-field2 in
+    let all = c .before .before .put-bytes in (
+      subst (λ (x : List ℕ). Put out 0 x (all .result) (all .last .0)) (ap₂ refusedLine (c .before .before .before .before .before .before .before .before .before .before .before .before .before .before .number .ensures) (c .before .before .before .before .before .before .before .before .detail .ensures))
+          (put-two out 0 _ _ (number .ensures .0) (put-two (number .last .0) (number .result) _ _ (detail .ensures .0) (all .ensures))),
+      omega (arith, number .ensures .1, detail .ensures .1, all .ensures .behind),
+    )
+
+pub put-refused-spec : {M : Type 1} → statement M
+put-refused-spec =
+    tie.close
+    (tie.spec
+    (λ c. search needs)
+    (λ c κs. search needs)
+    (λ c. search needs)
+    (λ c κs. search needs)
+    (λ c. search needs)
+    (λ c κs. search needs)
+    (λ c κs. search needs)
+    (λ c. search needs)
+    (λ c κs. search needs)
+    (λ c. search needs)
+    returns)

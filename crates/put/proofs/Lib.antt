@@ -1,0 +1,2 @@
+pub mod PutLaw
+pub mod DecimalLaw

@@ -1,0 +1,69 @@
+// The sizes of a plan's image, and the refusals that speak of them. (FORMAT 9)
+ghost use mathlib.Core.Path.{_≡_};
+ghost use Prim.Native.Nat.{_*_, _≤_};
+ghost use lib.ListN.{length};
+ghost use Rattle.paper.specs.Writer.{rowWords, planesWords, imageLength};
+ghost use Rattle.paper.specs.Writer as paper;
+ghost use Rattle.writer.specs.Answers.{asWritten, answerAs};
+ghost use Rattle.writer.specs.Kept.{rowsOf, sizesVerdict};
+use super::plan::is_protected;
+use super::plan::plane_words;
+use super::plan::words_of;
+use error::Refusal;
+use layout::MAX_IMAGE_BYTES;
+use layout::WORD;
+use layout::header_length;
+
+pub enum WriteResult {
+    // The image's length in bytes.
+    Written(usize),
+    Refused(Refusal),
+}
+
+pub(crate) fn row_words(rows: &[u64]) -> usize
+    requires { ⌜ length (now rows) ≤ 1024 ⌝ }
+    ensures { λ r. ⌜ (r ≡ rowWords (rowsOf (now (rows .entry)))) × (r ≤ 1024 * 4294967295) ⌝ }
+{
+    let mut sum: usize = 0;
+    let mut i: usize = 0;
+    while i < rows.len() {
+        sum += words_of(rows[i]) as usize;
+        i += 1;
+    }
+    sum
+}
+
+fn planes_words(rows: &[u64]) -> usize
+    requires { ⌜ length (now rows) ≤ 1024 ⌝ }
+    ensures { λ r. ⌜ (r ≡ planesWords (rowsOf (now (rows .entry)))) × (r ≤ 1024 * 4294967295) ⌝ }
+{
+    let mut sum: usize = 0;
+    let mut i: usize = 0;
+    while i < rows.len() {
+        let row = rows[i];
+        if is_protected(row) {
+            sum += plane_words(row);
+        }
+        i += 1;
+    }
+    sum
+}
+
+// What is left to refuse once the rows are fine and few: the payload's length, the image's, the room for it.
+pub(crate) fn check_sizes(rows: &[u64], regions: usize, payload: &[u8], room: usize) -> WriteResult
+    requires { ⌜ (length (now rows) ≤ 1024) × (regions ≤ 1024) × (regions ≡ paper.regions (rowsOf (now rows))) ⌝ }
+    ensures { λ r. ⌜ asWritten r ≡ answerAs (sizesVerdict (rowsOf (now (rows .entry))) (now (payload .entry)) room) (imageLength (rowsOf (now (rows .entry)))) ⌝ }
+{
+    let words = row_words(rows);
+    if payload.len() != WORD * words {
+        return WriteResult::Refused(Refusal::BadPlan { row: rows.len() });
+    }
+    let length = header_length(regions as u16) + WORD * (words + planes_words(rows));
+    if length > MAX_IMAGE_BYTES {
+        return WriteResult::Refused(Refusal::TooLarge);
+    }
+    if room < length {
+        return WriteResult::Refused(Refusal::NoRoom);
+    }
+    WriteResult::Written(length)
+}
