@@ -44,7 +44,7 @@ use Rattle.error.proofs.OneAnswer.{one-refusal}
 use Rattle.scan.specs.declared.Scan.{Scan}
 use Rattle.scan.specs.declared.Scan.the-variants as scan-says
 use Rattle.writer.specs.declared.plan.Row.{Row}
-use Rattle.writer.specs.declared.room.WriteResult.the-variants as write-says
+use Rattle.writer.specs.declared.sizes.WriteResult.the-variants as write-says
 use Rattle.repair.specs.declared.mending.MendResult.the-variants as mend-says
 use Rattle.demands.specs.Damage.{Protected, bitsOff, Damaged, Touched, Lost, uncorrected, ReadsBack}
 use Rattle.demands.specs.Runs.{Writes, MendsTo, ScrubsTo}

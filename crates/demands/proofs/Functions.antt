@@ -22,7 +22,7 @@ use Rattle.scan.specs.declared.Scan.{Scan}
 use Rattle.scan.proofs.OneAnswer.{one-scan}
 use Rattle.writer.specs.Answers.{asPlan}
 use Rattle.writer.specs.declared.plan.Row.{Row}
-use Rattle.writer.specs.declared.room.WriteResult.the-variants.{Written}
+use Rattle.writer.specs.declared.sizes.WriteResult.the-variants.{Written}
 use Rattle.repair.specs.Answers.{asMended}
 use Rattle.repair.specs.declared.mending.Mending as answer
 use Rattle.repair.specs.declared.mending.MendResult.{MendResult}

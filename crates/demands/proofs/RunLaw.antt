@@ -22,8 +22,8 @@ use Rattle.scan.proofs.OneAnswer.{one-scan}
 use Rattle.writer.specs.Answers.{asRow, asPlan, answerOf, bytesAfter, wrote}
 use Rattle.writer.specs.Answers as plan-answer
 use Rattle.writer.specs.declared.plan.Row.{Row}
-use Rattle.writer.specs.declared.room.WriteResult.the-variants.{Written}
-use Rattle.writer.specs.declared.room.WriteResult.the-variants as write
+use Rattle.writer.specs.declared.sizes.WriteResult.the-variants.{Written}
+use Rattle.writer.specs.declared.sizes.WriteResult.the-variants as write
 use Rattle.repair.proofs.mend.Reads as mend
 use Rattle.repair.proofs.scrub.Reads as scrub
 use Rattle.repair.specs.Answers.{asMended, leftBy}

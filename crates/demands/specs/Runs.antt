@@ -11,7 +11,7 @@ use Rattle.paper.specs.Writer.{write}
 use Rattle.paper.specs.Programs.{scrubImage, scrubLine}
 use Rattle.writer.specs.Answers.{asPlan, asWritten, answerOf, bytesAfter}
 use Rattle.writer.specs.declared.plan.Row.{Row}
-use Rattle.writer.specs.declared.room.WriteResult.{WriteResult}
+use Rattle.writer.specs.declared.sizes.WriteResult.{WriteResult}
 use Rattle.scan.specs.Answers.{asScan}
 use Rattle.scan.specs.declared.Scan.{Scan}
 use Rattle.repair.specs.Answers.{asMended, leftBy}
