@@ -30,7 +30,7 @@ use Rattle.paper.specs.Scan.{Report, scan}
 use Rattle.paper.specs.Scrub.{scrub}
 use Rattle.paper.specs.Writer.{planes, image, write}
 use Rattle.paper.specs.Writer as plan
-use Rattle.paper.specs.Mend.{LaidApart, FirstMisplaced, Mended, mendBytes, changed, wholeOf, mended, refusedMend, mend}
+use Rattle.paper.specs.Mend.{LaidApart, FirstMisplaced, MendRule, mendBytes, changed, wholeOf, mended, refusedMend, mend}
 use Rattle.paper.specs.Programs.{storedLine, scrubImage, scrubLine}
 use Rattle.paper.proofs.FigureTable as figure
 use Rattle.paper.proofs.LayoutLaw as layout
@@ -49,7 +49,7 @@ use Rattle.repair.specs.declared.mending.MendResult.the-variants as mend-says
 use Rattle.demands.specs.Damage.{Protected, bitsOff, Damaged, Touched, Lost, uncorrected, ReadsBack}
 use Rattle.demands.specs.Runs.{Writes, MendsTo, ScrubsTo}
 use Rattle.demands.specs.ScrubSteps.{Changes}
-use Rattle.demands.proofs.Answer.{mends}
+use Rattle.demands.proofs.MendParts.{mends}
 use Rattle.demands.proofs.Command.{scrubbed}
 use Rattle.demands.proofs.DamageLaw.{voted-right}
 use Rattle.demands.proofs.Refuses.{as-parse, only-overlap, overlap-always, else-mends}
@@ -125,8 +125,8 @@ vote-is-majority = layout.vote-is-majority
 -- "Mend equals the format's rules." Where it mends, what it leaves meets the rule, and one list alone does; the report is scrub's of the same image,
 -- the count that of the positions that changed, and whole said exactly if there is a report with no uncorrectable word.
 pub mend-is-the-rule : (x y : List ℕ) (r : Option Report) (k : ℕ) (t : Bool) → Bytes x → mend x ≡ mended y r k t
-    → Mended x y
-    × ((z : List ℕ) → Mended x z → z ≡ y)
+    → MendRule x y
+    × ((z : List ℕ) → MendRule x z → z ≡ y)
     × (scrub x .report ≡ r)
     × (changed x y ≡ k)
     × (wholeOf r ≡ t)

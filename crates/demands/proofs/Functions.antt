@@ -14,7 +14,7 @@ use Rattle.paper.specs.Writer.{planes}
 use Rattle.paper.specs.Programs.{storedLine}
 use Rattle.lines.specs.declared.Printed.{Printed}
 use lib.Seq.{sets}
-use Rattle.paper.specs.Mend.{LaidApart, FirstMisplaced, Mended, changed, wholeOf, Mending, mended, mend}
+use Rattle.paper.specs.Mend.{LaidApart, FirstMisplaced, MendRule, changed, wholeOf, mended, mend}
 use Rattle.error.specs.declared.Refusal.the-variants.{OverlappingRegions}
 use Rattle.repair.proofs.OneAnswer.{one-mend}
 use Rattle.scan.specs.Answers.{asScan}
@@ -100,8 +100,8 @@ module _ (x : List ℕ) (bytes : Bytes x) (m : answer.Mending) (y : List ℕ) (m
       run.mends-to y r z _ again (demands.settles x y (asScan (m .report)) (m .stored) (m .whole) bytes (run.mended x m y mends))
 
   -- What is left meets the rule, and nothing else does; the answer is scrub's report, the number of bytes that changed, and whether all is whole.
-  pub mend-is-the-rule : Mended x y
-      × ((z : List ℕ) → Mended x z → z ≡ y)
+  pub mend-is-the-rule : MendRule x y
+      × ((z : List ℕ) → MendRule x z → z ≡ y)
       × (scrub x .report ≡ asScan (m .report))
       × (changed x y ≡ m .stored)
       × (wholeOf (asScan (m .report)) ≡ m .whole)

@@ -15,7 +15,7 @@ use Rattle.paper.specs.Layout.{headerLength, directory, Entry}
 use Rattle.paper.specs.Parity.{Class, decode, wordAfter, checkAfter, fixedWord, fixedCheck}
 use Rattle.paper.specs.Scan.{visits, Among, examined, isLost, total, classesAt, report, scan, Report}
 use Rattle.paper.specs.Writer.{Row, flagged, rowEntries, planeEntry, planeEntries, planeWords, rowWords, planesBytes, planes, regions, firstWord, planDirectory, planImage, image, write}
-use Rattle.paper.specs.Mend.{mendVerdict, Mended, mendBytes, changed, wholeOf, mended, mend}
+use Rattle.paper.specs.Mend.{mendVerdict, MendRule, mendBytes, changed, wholeOf, mended, mend}
 use Rattle.paper.proofs.BytesLaw.{at-left}
 use Rattle.paper.proofs.ScanLaw.{anyOf, scan-all}
 use Rattle.laws.proofs.HeaderLaw.{same-visits, same-verdict}
@@ -23,7 +23,7 @@ use Rattle.laws.proofs.MendLaw.{InOrder, meets-rule}
 use Rattle.laws.proofs.PlanLaw.{RowsOK, PlanOK, wrote}
 use Rattle.laws.proofs.ImageLaw.{in-order, in-body, directory-back, any-back, mend-fine}
 use Rattle.demands.specs.Damage.{Protected, Damaged, Lost}
-use Rattle.demands.proofs.Answer.{none-total, total-zero}
+use Rattle.demands.proofs.MendParts.{none-total, total-zero}
 use Rattle.demands.proofs.DamageLaw.{damaged-header, damaged-examined, outside, wholly, none-lost}
 
 module _ (rs : List Row) (payload : List ℕ) (room : ℕ) (w : List ℕ) (h : write rs payload room ≡ image w) (b : Bytes payload) where
@@ -37,7 +37,7 @@ module _ (rs : List Row) (payload : List ℕ) (room : ℕ) (w : List ℕ) (h : w
     damaged-fine : mendVerdict d ≡ fine
     damaged-fine = same-verdict d w (a .size) (damaged-header most w d written-order a) ∙ written-fine
 
-    rule : Mended d (mendBytes d)
+    rule : MendRule d (mendBytes d)
     rule = meets-rule d damaged-fine (a .bytes)
 
     accepts : mend d ≡ mended (mendBytes d) (scan d) (changed d (mendBytes d)) (wholeOf (scan d))

@@ -79,10 +79,10 @@ pub mended : (x : List ℕ) (m : Mending) (y : List ℕ) → MendsTo x (Mended m
 mended x m y u = sym (u .answer)
 
 -- an answer that is known leaves known bytes
-pub mends-to : (x : List ℕ) (r : MendResult) (y : List ℕ) (o : paper.Mending) → MendsTo x r y → paper.mend x ≡ o → (y ≡ leftBy o x) × (asMended r y ≡ o)
-mends-to x r y o u e = (u .leaves ∙ ap (λ (m : paper.Mending). leftBy m x) e, u .answer ∙ e)
+pub mends-to : (x : List ℕ) (r : MendResult) (y : List ℕ) (o : paper.MendAnswer) → MendsTo x r y → paper.mend x ≡ o → (y ≡ leftBy o x) × (asMended r y ≡ o)
+mends-to x r y o u e = (u .leaves ∙ ap (λ (m : paper.MendAnswer). leftBy m x) e, u .answer ∙ e)
 
-refused-as : (o : paper.Mending) (k d : ℕ) (x : List ℕ) → paper.refusedMend k d ≡ o → leftBy o x ≡ x
+refused-as : (o : paper.MendAnswer) (k d : ℕ) (x : List ℕ) → paper.refusedMend k d ≡ o → leftBy o x ≡ x
 refused-as (paper.refusedMend k′ d′) k d x e = refl
 refused-as (paper.mended z r n w) k d x e = let f : _≡_ {A = ℕ} 0 1 = cc in absurd (omega arith)
 

@@ -17,7 +17,7 @@ use Rattle.paper.specs.Views.{tableSpan, tableVerdict, bytesSpan, Span, 
 use Rattle.paper.specs.Parity.{columns, find, isOdd, classOf, checkOf, syndrome, decode, flipWord}
 use Rattle.paper.specs.Scan.{planeOf, isProtected, visitOf, visitsOver, visits, pairsFrom, wordsOf, examinedIn, examined, total, report, classAt, classesAt, scanOf, scan}
 use Rattle.paper.specs.Scrub.{scrub, scrubFrom, scrubRegion, scrubVisits, scrubWords, scrubWord, Scrubbed}
-use Rattle.paper.specs.Mend.{meets, meetsAny, inHeader, apartVerdict, mendVerdict, fixAt, fixAll, mendBytes, changed, mend, Mending, refusedMend, mended}
+use Rattle.paper.specs.Mend.{meets, meetsAny, inHeader, apartVerdict, mendVerdict, fixAt, fixAll, mendBytes, changed, mend, MendAnswer, refusedMend, mended}
 use Rattle.paper.specs.Programs.{text, digits, decimal, field, tooLong, tooLongLine, refusedLine, regionsLine, eccLine, storedLine, reportText, scrubImage, scrubLine}
 use Rattle.paper.specs.Writer.{Row, rowEntries, planeEntry, planeEntries, rowWords, planesWords, planes, regions, planDirectory, entryBytes, entriesBytes, prologueStart, prologueBytes, checks, planeBytes, planesBytes, planImage, kindAmong, rowsVerdict, imageLength, planVerdict, write, image, refusedPlan}
 
@@ -27,7 +27,7 @@ parsing : List ℕ → Parsed
 unfolding parse parseVerdict headerVerdict prologueVerdict entriesVerdict among headerOf prologue voted tab count countIn read crc32 serialR stepR sent bitsLow bit directory directoryOf directoryBytes directoryBytesOf entries entryOf prologueOff directoryOff differs
 parsing x = parse x
 
-mending : List ℕ → Mending
+mending : List ℕ → MendAnswer
 unfolding parsing mend mendVerdict mendBytes header apartVerdict meets meetsAny inHeader examined visits visitsOver visitOf isProtected planeOf firstThat examinedIn wordsOf pairsFrom fixAll fixAt classAt decode syndrome checkOf columns find isOdd ones classOf syn flipWord le scan scanOf report classesAt total changed
 mending x = mend x
 

@@ -46,7 +46,7 @@ pub record Elsewhere (x : List ℕ) (p : ℕ) : Type 0 where
   pub noWord : (q c : ℕ) → Among q c (examined x) → q ≡ p / 8 → ⊥
   pub noCheck : (q c : ℕ) → Among q c (examined x) → c ≡ p → ⊥
 
-pub record Mended (x y : List ℕ) : Type 0 where
+pub record MendRule (x y : List ℕ) : Type 0 where
   pub size : length y ≡ length x
   pub bytes : Bytes y
   -- all header copies become the vote
@@ -115,13 +115,13 @@ abbrev pub wholeOf : Option Report → Bool
 wholeOf none = false
 wholeOf (some r) = eqb (r .uncorrectable) 0
 
-pub data Mending : Type 0 where
-  refusedMend : ℕ → ℕ → Mending
-  mended : List ℕ → Option Report → ℕ → Bool → Mending
+pub data MendAnswer : Type 0 where
+  refusedMend : ℕ → ℕ → MendAnswer
+  mended : List ℕ → Option Report → ℕ → Bool → MendAnswer
 
-abbrev pub mendAs : Verdict → List ℕ → List ℕ → Option Report → Mending
+abbrev pub mendAs : Verdict → List ℕ → List ℕ → Option Report → MendAnswer
 mendAs fine x y r = mended y r (changed x y) (wholeOf r)
 mendAs (refuse n d) x y r = refusedMend n d
 
-unfoldable pub mend : List ℕ → Mending
+unfoldable pub mend : List ℕ → MendAnswer
 mend x = mendAs (mendVerdict x) x (mendBytes x) (scan x)

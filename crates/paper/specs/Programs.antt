@@ -9,7 +9,7 @@ use lib.Dec.{ltb}
 use lib.ListN.{length}
 use Rattle.paper.specs.Parse.{Parsed, accepted, refused, parse}
 use Rattle.paper.specs.Scan.{Report, scan}
-use Rattle.paper.specs.Mend.{Mending, refusedMend, mended, mend}
+use Rattle.paper.specs.Mend.{MendAnswer, refusedMend, mended, mend}
 
 unfoldable pub text : String → List ℕ
 text empty = []
@@ -67,11 +67,11 @@ reportText x = cond (tooLong x) tooLongLine (linesOf (parse x) (scan x))
 
 -- ---- scrub: the image to standard output, or no byte; the line to standard error
 
-abbrev pub imageOut : Mending → List ℕ
+abbrev pub imageOut : MendAnswer → List ℕ
 imageOut (refusedMend n d) = []
 imageOut (mended y r stored whole) = y
 
-abbrev pub lineOf : Mending → List ℕ
+abbrev pub lineOf : MendAnswer → List ℕ
 lineOf (refusedMend n d) = refusedLine n d
 lineOf (mended y r stored whole) = storedLine stored
 

@@ -39,14 +39,14 @@ asCheck check.Fine = fine
 asCheck (check.Refuse r) = asVerdict r
 
 -- a verdict, with a count where it is fine
-pub data Answer : Type 0 where
-  fineWith : ℕ → Answer
-  refusedWith : ℕ → ℕ → Answer
+pub data CountAnswer : Type 0 where
+  fineWith : ℕ → CountAnswer
+  refusedWith : ℕ → ℕ → CountAnswer
 
-abbrev pub withCount : Verdict → ℕ → Answer
+abbrev pub withCount : Verdict → ℕ → CountAnswer
 withCount fine n = fineWith n
 withCount (refuse k d) n = refusedWith k d
 
-abbrev pub asCounted : Counted → Answer
+abbrev pub asCounted : Counted → CountAnswer
 asCounted (counted.Count n) = fineWith n
 asCounted (counted.Refuse r) = refusedWith (numberOf r) (detailOf r)

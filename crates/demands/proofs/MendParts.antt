@@ -9,7 +9,7 @@ use Rattle.paper.specs.Bytes.{at, wordAt, Bytes}
 use Rattle.paper.specs.Refusals.{Verdict, fine, refuse}
 use Rattle.paper.specs.Parity.{Class, decode}
 use Rattle.paper.specs.Scan.{Pair, Among, here, later, total, classAt, classesAt, Report, scan}
-use Rattle.paper.specs.Mend.{mendVerdict, Mended, mendBytes, changed, wholeOf, mended, mendAs, mend}
+use Rattle.paper.specs.Mend.{mendVerdict, MendRule, mendBytes, changed, wholeOf, mended, mendAs, mend}
 use Rattle.laws.proofs.MendLaw.{meets-rule}
 
 pub record Mends (x y : List ℕ) (r : Option Report) (k : ℕ) (t : Bool) : Type 0 where
@@ -18,7 +18,7 @@ pub record Mends (x y : List ℕ) (r : Option Report) (k : ℕ) (t : Bool) : Typ
   pub report : scan x ≡ r
   pub stored : changed x y ≡ k
   pub whole : wholeOf r ≡ t
-  pub rule : Mended x y
+  pub rule : MendRule x y
 
 pub mends : (x y : List ℕ) (r : Option Report) (k : ℕ) (t : Bool) → Bytes x → mend x ≡ mended y r k t → Mends x y r k t
 unfolding mend
@@ -36,7 +36,7 @@ mends x y r k t b h = go (mendVerdict x) refl h
           report = s;
           stored = ap (changed x) (sym a) ∙ c;
           whole = ap wholeOf (sym s) ∙ d;
-          rule = subst (Mended x) a (meets-rule x e b);
+          rule = subst (MendRule x) a (meets-rule x e b);
         }
     go (refuse n d) e g = let z : _≡_ {A = ℕ} 0 1 = cc in absurd (omega arith)
 
