@@ -13,5 +13,4 @@ pub mod ScrubLaw
 pub mod PlanLaw
 pub mod PlanPairs
 pub mod ImageLaw
-pub mod AppendLaw
 pub mod PutLaw
