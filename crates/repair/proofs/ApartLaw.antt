@@ -16,12 +16,12 @@ use Rattle.paper.specs.Views.{nth, seen, regionAt}
 use Rattle.paper.specs.Mend.{meets, meetsAny, inHeader, apartVerdict}
 use Rattle.layout.specs.declared.Region.{Region}
 use Rattle.layout.specs.Regions.{asEntry, regionOf}
+use Rattle.paper.proofs.WalkLaw.{nth-gone, nth-there}
 use Rattle.view.specs.Answers.{foundAs}
 use Rattle.view.specs.declared.regions.RegionAt.{RegionAt}
 use Rattle.view.specs.declared.regions.RegionAt.the-variants as is
 use Rattle.view.proofs.AnswersLaw.{found-some, found-none}
 use Rattle.laws.proofs.VerdictLaw.{and-false, or-none}
-use Rattle.repair.proofs.NthLaw.{nth-gone, nth-there}
 use Rattle.repair.specs.Earlier.{before, earlierOf, highest}
 
 -- ---- two regions

@@ -1,5 +1,4 @@
 pub mod OutcomeLaw
-pub mod NthLaw
 pub mod ScrubbingLaw
 pub mod RunLaw
 pub mod ApartLaw

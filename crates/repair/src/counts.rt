@@ -1,10 +1,9 @@
 // What scrub and mend count. (FORMAT 8, 10)
 ghost use mathlib.Core.Path.{_≡_};
-ghost use mathlib.Core.Bool.{_||_};
 ghost use Prim.Native.Nat.{ℕ, _+_};
 ghost use Rattle.scan.specs.Answers.{asScan};
 ghost use Rattle.ecc.specs.Answers.{asOutcome};
-ghost use Rattle.repair.specs.Counting.{Room, counted, reportedBy};
+ghost use Rattle.repair.specs.Counting.{Room, counted, reportedBy, visitedBy};
 use ecc::EccReport;
 use ecc::WordStatus;
 use scan::Scan;
@@ -46,7 +45,7 @@ pub(crate) fn count_word(counts: Counts, status: WordStatus) -> Counts
 
 // A region that is visited makes for a report.
 pub(crate) fn visit(counts: Counts, visited: bool) -> Counts
-    ensures { λ r. ⌜ r ≡ record { any = counts .any || visited; words = counts .words; corrected = counts .corrected; uncorrectable = counts .uncorrectable } ⌝ }
+    ensures { λ r. ⌜ r ≡ visitedBy counts visited ⌝ }
 {
     Counts {
         any: counts.any || visited,
