@@ -1,12 +1,10 @@
 -- Bytes stored from a buffer's front on. Assumes nothing.
-use mathlib.Core.Path.{_≡_, refl, sym, ap, _∙_}
-use mathlib.Core.List.{List, [], _∷_, _++_, append-assoc}
+use mathlib.Core.Path.{_≡_, ap, _∙_}
+use mathlib.Core.List.{List, _++_}
 use Prim.Native.Nat.{ℕ, _+_, _≤_}
 use native.Mathlib.Omega.{arith}
 use lib.ListN.{length, drop}
 use lib.Seq.{sets, sets-eq}
-use Rattle.paper.specs.Layout.{Entry}
-use Rattle.paper.specs.Writer.{entryBytes, entriesBytes}
 use Rattle.laws.specs.Steps.{over}
 
 pub put-over : (o a : List ℕ) → length a ≤ length o → sets o 0 a ≡ over a o
