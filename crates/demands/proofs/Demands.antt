@@ -11,7 +11,7 @@
 -- The rule behind them: repair only what two header copies outvote or the parity says is one flipped bit, touch nothing else, and check the image afresh before it is loaded.
 use mathlib.Core.Path.{_≡_, ap₂}
 use mathlib.Core.Bool.{Bool, true, false}
-use mathlib.Core.List.{List}
+use mathlib.Core.List.{List, [], _∷_}
 use mathlib.Core.Logic.{_⊎_}
 use mathlib.Core.Option.{Option, none}
 use Prim.Native.Nat.{ℕ, _+_, _*_, _/_, _^_, _≤_, _<_}
@@ -31,7 +31,7 @@ use Rattle.paper.specs.Scrub.{scrub}
 use Rattle.paper.specs.Writer.{planes, image, write}
 use Rattle.paper.specs.Writer as plan
 use Rattle.paper.specs.Mend.{LaidApart, FirstMisplaced, MendRule, mendBytes, changed, wholeOf, mended, refusedMend, mend}
-use Rattle.paper.specs.Programs.{storedLine, scrubImage, scrubLine}
+use Rattle.paper.specs.Programs.{storedLine, lines, scrubImage, scrubText}
 use Rattle.paper.proofs.FigureTable as figure
 use Rattle.paper.proofs.LayoutLaw as layout
 use Rattle.paper.proofs.CrcDivision as crc
@@ -167,7 +167,7 @@ restores rs payload room w d written bytes damage = restored rs payload room w w
 -- The same of the command: an image of at most 65,536 bytes, so damaged, comes out of scrub as the writer's exact bytes, with the number of bytes that differed.
 pub command-restores : (rs : List plan.Row) (payload : List ℕ) (room : ℕ) (w d : List ℕ)
     → write rs payload room ≡ image w → Bytes payload → Damaged 1 w d → length w ≤ 65536
-    → (scrubImage d ≡ w) × (scrubLine d ≡ storedLine (changed d w))
+    → (scrubImage d ≡ w) × (scrubText d ≡ lines (storedLine (changed d w) ∷ []))
 command-restores rs payload room w d written bytes damage short = scrubbed w d damage short (restores rs payload room w d written bytes damage)
 
 -- "Mending twice is mending once": any image x that mend accepts. It leaves bytes y, with a report r, k bytes changed, and whole or not. The second time

@@ -1,7 +1,7 @@
 -- The demands of the functions themselves: `writer::write`, `repair::mend` and `lines::scrub`, through their promises (specs/Runs.antt). Assumes nothing.
 use mathlib.Core.Path.{_≡_, sym, ap, _∙_}
 use mathlib.Core.Bool.{true, false}
-use mathlib.Core.List.{List}
+use mathlib.Core.List.{List, [], _∷_}
 use Prim.Native.Nat.{ℕ, _/_, _≤_, _<_}
 use lib.Dec.{ltb}
 use lib.ListN.{length, take}
@@ -11,7 +11,7 @@ use Rattle.paper.specs.Parse.{headerOf, parse, accepted}
 use Rattle.paper.specs.Scan.{scan}
 use Rattle.paper.specs.Scrub.{scrub}
 use Rattle.paper.specs.Writer.{planes}
-use Rattle.paper.specs.Programs.{storedLine}
+use Rattle.paper.specs.Programs.{storedLine, lines}
 use Rattle.lines.specs.declared.Printed.{Printed}
 use lib.Seq.{sets}
 use Rattle.paper.specs.Mend.{LaidApart, FirstMisplaced, MendRule, changed, wholeOf, mended, mend}
@@ -46,7 +46,7 @@ module _ (rows : List Row) (payload out : List ℕ) (n : ℕ) (after : List ℕ)
 
   -- The command writes the writer's exact bytes, and says how many differed.
   pub command-restores : (d buffer : List ℕ) → Damaged 1 (take n after) d → length (take n after) ≤ 65536 → (r : Printed) (y line : List ℕ) → Prints d buffer r y line
-      → (take (r .image) y ≡ take n after) × (line ≡ sets buffer 0 (storedLine (changed d (take n after))))
+      → (take (r .image) y ≡ take n after) × (line ≡ sets buffer 0 (lines (storedLine (changed d (take n after)) ∷ [])))
   command-restores d buffer damage short r y line scrubs =
       let o = demands.command-restores (asPlan rows) payload (length out) (take n after) d (run.written rows payload out n after wrote) bytes damage short in
       (scrubs .written ∙ o .0, scrubs .said ∙ ap (sets buffer 0) (o .1))
