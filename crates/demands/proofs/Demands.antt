@@ -139,7 +139,7 @@ mend-is-the-rule x y r k t b h =
 pub mend-refuses-exactly : (x : List ℕ)
     → ((n d : ℕ) → parse x ≡ refused n d → mend x ≡ refusedMend n d)
     × ((i : ℕ) → mend x ≡ refusedMend overlappingRegions i
-      → (parse x ≡ accepted (headerOf x)) × (LaidApart (count x) (directory x) → ⊥) × FirstMisplaced (count x) (directory x) i)
+    → (parse x ≡ accepted (headerOf x)) × (LaidApart (count x) (directory x) → ⊥) × FirstMisplaced (count x) (directory x) i)
     × (parse x ≡ accepted (headerOf x) → (LaidApart (count x) (directory x) → ⊥) → (i : ℕ) × (mend x ≡ refusedMend overlappingRegions i))
     × (parse x ≡ accepted (headerOf x) → LaidApart (count x) (directory x) → mend x ≡ mended (mendBytes x) (scan x) (changed x (mendBytes x)) (wholeOf (scan x)))
 mend-refuses-exactly x = (as-parse x, only-overlap x, overlap-always x, else-mends x)

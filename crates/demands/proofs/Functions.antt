@@ -83,7 +83,7 @@ module _ (rows : List Row) (payload out : List ℕ) (n : ℕ) (after : List ℕ)
 
 pub mend-refuses-exactly : (x : List ℕ) (r : MendResult) (y : List ℕ) → MendsTo x r y
     → ((i : ℕ) → r ≡ mend-says.Refused (OverlappingRegions i)
-      → (parse x ≡ accepted (headerOf x)) × (LaidApart (count x) (directory x) → ⊥) × FirstMisplaced (count x) (directory x) i)
+    → (parse x ≡ accepted (headerOf x)) × (LaidApart (count x) (directory x) → ⊥) × FirstMisplaced (count x) (directory x) i)
     × (parse x ≡ accepted (headerOf x) → (LaidApart (count x) (directory x) → ⊥) → (i : ℕ) × (r ≡ mend-says.Refused (OverlappingRegions i)))
 mend-refuses-exactly x r y u =
     let d = demands.mend-refuses-exactly x in (

@@ -1,3 +1,3 @@
 pub mod PlaneLaw
-pub mod PlacesLaw
+pub mod CheckTableLaw
 pub mod OneAnswer

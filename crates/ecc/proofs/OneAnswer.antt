@@ -18,10 +18,10 @@ use Rattle.ecc.proofs.EccReport.is_clean.Reads as is-clean
 use Rattle.ecc.proofs.EccReport.needs_scrub.Reads as needs-scrub
 use Rattle.ecc.proofs.plane_word.Reads as plane-word
 use Rattle.ecc.proofs.plane_scan.Reads as plane-scan
-use Rattle.ecc.proofs.places.place_checks.Reads as place-checks
-use Rattle.ecc.proofs.places.check_by.Reads as check-by
-use Rattle.ecc.proofs.decode_by.Reads as decode-by
-use Rattle.ecc.proofs.plane_scan_by.Reads as plane-scan-by
+use Rattle.ecc.proofs.check_table.fill_check_table.Reads as fill-check-table
+use Rattle.ecc.proofs.check_table.check_byte_with.Reads as check-byte-with
+use Rattle.ecc.proofs.check_table.decode_word_with.Reads as decode-word-with
+use Rattle.ecc.proofs.check_table.plane_scan_with.Reads as plane-scan-with
 
 status : Outcome → WordStatus
 status (cleanWord w) = Clean w
@@ -76,14 +76,14 @@ one-answer-plane-word κs a r r′ s s′ p q = one-word r r′ (agree p q)
 pub one-answer-plane-scan : OneAnswer plane-scan.Learnt
 one-answer-plane-scan κs a r r′ s s′ p q = one-report r r′ (agree p q)
 
-pub one-answer-place-checks : OneAnswerAnd place-checks.Learnt (λ κs s. now (s .0))
-one-answer-place-checks κs a r r′ s s′ p q = (refl, agree p q)
+pub one-answer-fill-check-table : OneAnswerAnd fill-check-table.Learnt (λ κs s. now (s .0))
+one-answer-fill-check-table κs a r r′ s s′ p q = (refl, agree p q)
 
-pub one-answer-check-by : OneAnswer check-by.Learnt
-one-answer-check-by κs a r r′ s s′ p q = agree p q
+pub one-answer-check-byte-with : OneAnswer check-byte-with.Learnt
+one-answer-check-byte-with κs a r r′ s s′ p q = agree p q
 
-pub one-answer-decode-by : OneAnswer decode-by.Learnt
-one-answer-decode-by κs a r r′ s s′ p q = one-status r r′ (agree p q)
+pub one-answer-decode-word-with : OneAnswer decode-word-with.Learnt
+one-answer-decode-word-with κs a r r′ s s′ p q = one-status r r′ (agree p q)
 
-pub one-answer-plane-scan-by : OneAnswer plane-scan-by.Learnt
-one-answer-plane-scan-by κs a r r′ s s′ p q = one-report r r′ (agree p q)
+pub one-answer-plane-scan-with : OneAnswer plane-scan-with.Learnt
+one-answer-plane-scan-with κs a r r′ s s′ p q = one-report r r′ (agree p q)

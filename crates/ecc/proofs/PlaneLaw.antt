@@ -15,7 +15,7 @@ use Rattle.paper.specs.Scan.{isCorrected, isLost, total, report, sliceWords, sl
 use Rattle.paper.proofs.BytesLaw.{length-tab, drop-tab}
 use Rattle.scalar.specs.Answers.{orZero}
 use Rattle.scalar.proofs.OrZero.{or-zero-in}
-use Rattle.ecc.specs.Places.{checkBy, decodeBy, sliceScanBy}
+use Rattle.ecc.specs.CheckTable.{checkWith, decodeWith, sliceScanWith}
 
 module _ (x plane : List ℕ) where
   -- word w, past the shorter of the two and before
@@ -36,15 +36,15 @@ module _ (x plane : List ℕ) where
     decoded d = d ∙ ap (λ (n : ℕ). outcome n (at plane w)) word-read
 
     -- by a table
-    pub syndrome-read : (t : List ℕ) {k : ℕ} → k ≡ checkBy t v → classOf (bitXor k (at plane w)) ≡ decodeBy t (wordAt x w) (at plane w)
-    unfolding decodeBy
-    syndrome-read t d = ap (λ (n : ℕ). classOf (bitXor n (at plane w))) (d ∙ ap (checkBy t) word-read)
+    pub syndrome-read : (t : List ℕ) {k : ℕ} → k ≡ checkWith t v → classOf (bitXor k (at plane w)) ≡ decodeWith t (wordAt x w) (at plane w)
+    unfolding decodeWith
+    syndrome-read t d = ap (λ (n : ℕ). classOf (bitXor n (at plane w))) (d ∙ ap (checkWith t) word-read)
 
 -- ---- the report, word by word
 
 -- the classes of the words by a table
 abbrev pub classes : List ℕ → List ℕ → List ℕ → List Class
-classes t x plane = tab (sliceWords x plane) (λ w. decodeBy t (wordAt x w) (at plane w))
+classes t x plane = tab (sliceWords x plane) (λ w. decodeWith t (wordAt x w) (at plane w))
 
 -- `n` and the count of the words from `w` on are the count of all
 abbrev pub Counted : (Class → ℕ) → List ℕ → List ℕ → List ℕ → ℕ → ℕ → Type 0
@@ -52,16 +52,16 @@ Counted f t x plane w n = n + total f (drop w (classes t x plane)) ≡ total f (
 
 module _ (t x plane : List ℕ) where
   one-more : (f : Class → ℕ) (w : ℕ) → w < sliceWords x plane
-      → total f (drop w (classes t x plane)) ≡ f (decodeBy t (wordAt x w) (at plane w)) + total f (drop (w + 1) (classes t x plane))
+      → total f (drop w (classes t x plane)) ≡ f (decodeWith t (wordAt x w) (at plane w)) + total f (drop (w + 1) (classes t x plane))
   unfolding total
-  one-more f w h = rw (add-one, drop-tab (sliceWords x plane) (λ i. decodeBy t (wordAt x i) (at plane i)) w h)
+  one-more f w h = rw (add-one, drop-tab (sliceWords x plane) (λ i. decodeWith t (wordAt x i) (at plane i)) w h)
 
-  pub turn : (f : Class → ℕ) (w n m : ℕ) → w < sliceWords x plane → m ≡ n + f (decodeBy t (wordAt x w) (at plane w))
+  pub turn : (f : Class → ℕ) (w n m : ℕ) → w < sliceWords x plane → m ≡ n + f (decodeWith t (wordAt x w) (at plane w))
       → Counted f t x plane w n → Counted f t x plane (w + 1) m
   turn f w n m h e inv = omega (arith, one-more f w h)
 
   length-classes : length (classes t x plane) ≡ sliceWords x plane
-  length-classes = length-tab (sliceWords x plane) (λ w. decodeBy t (wordAt x w) (at plane w))
+  length-classes = length-tab (sliceWords x plane) (λ w. decodeWith t (wordAt x w) (at plane w))
 
   all : (f : Class → ℕ) (w n : ℕ) → w ≡ sliceWords x plane → Counted f t x plane w n → n ≡ total f (classes t x plane)
   unfolding total
@@ -70,6 +70,6 @@ module _ (t x plane : List ℕ) where
       omega (arith, ap (total f) d)
 
   pub scanned : (w n k : ℕ) → w ≡ sliceWords x plane → Counted isCorrected t x plane w n → Counted isLost t x plane w k
-      → record { words = w; corrected = n; uncorrectable = k } ≡ sliceScanBy t x plane
-  unfolding sliceScanBy report
+      → record { words = w; corrected = n; uncorrectable = k } ≡ sliceScanWith t x plane
+  unfolding sliceScanWith report
   scanned w n k e f g = rw (all isCorrected w n e f, all isLost w k e g, length-classes, e)

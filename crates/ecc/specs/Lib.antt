@@ -1,2 +1,2 @@
 pub mod Answers
-pub mod Places
+pub mod CheckTable

@@ -1,5 +1,5 @@
 // (72,64) Hsiao SECDED, after ecc.rs: one check byte for each 64-bit word, in a plane beside the data.
-mod places;
+mod check_table;
 
 ghost use mathlib.Core.Path.{_≡_};
 ghost use mathlib.Core.Bool.{_&&_};
@@ -9,9 +9,12 @@ ghost use lib.ListN.{length};
 ghost use Rattle.paper.specs.Parity.{columns, find, checkOf, classOf, outcomeAs, outcome, planeKind};
 ghost use Rattle.paper.specs.Scan.{isCorrected, isLost, sliceWords, sliceWord, sliceScan};
 ghost use Rattle.ecc.specs.Answers.{asOutcome, asWord, asReport, placeIn, classOfBit};
-ghost use Rattle.ecc.specs.Places.{outcomeBy, sliceScanBy};
-pub use places::check_by;
-pub use places::place_checks;
+pub use check_table::CheckTable;
+pub use check_table::EMPTY_TABLE;
+pub use check_table::check_byte_with;
+pub use check_table::decode_word_with;
+pub use check_table::fill_check_table;
+pub use check_table::plane_scan_with;
 
 // Number of check bits per word.
 pub const CHECK_BITS: usize = 8;
@@ -177,13 +180,6 @@ pub fn decode_word(data: u64, check: u8) -> WordStatus
     status_of(data, check_byte(data) ^ check)
 }
 
-// The same by a table of check bytes, for many words: place_checks fills it once.
-pub fn decode_by(table: &[u8; 2048], data: u64, check: u8) -> WordStatus
-    ensures { λ r. ⌜ asOutcome r ≡ outcomeBy (now (table .entry)) «data» check ⌝ }
-{
-    status_of(data, check_by(table, data) ^ check)
-}
-
 // What a scan found: words examined, words with a corrected fault, words with more faults than one.
 pub struct EccReport {
     pub words: usize,
@@ -244,37 +240,11 @@ fn one_if_corrected(syndrome: u8) -> usize
     if flipped_bit(syndrome) < 72 { 1 } else { 0 }
 }
 
-// Every word of the data that has its byte in the plane, by a table of check bytes.
-pub fn plane_scan_by(table: &[u8; 2048], parity: &[u8], data: &[u8]) -> EccReport
-    ensures { λ r. ⌜ asReport r ≡ sliceScanBy (now (table .entry)) (now («data» .entry)) (now (parity .entry)) ⌝ }
-{
-    let words = plane_words(parity, data);
-    let mut corrected: usize = 0;
-    let mut uncorrectable: usize = 0;
-    let mut w: usize = 0;
-    while w < words {
-        let word = scalar::u64_or_zero(data, 8 * w);
-        let syndrome = check_by(table, word) ^ parity[w];
-        // A clean word, which nearly every one is, counts for nothing.
-        if syndrome != 0 {
-            let one = one_if_corrected(syndrome);
-            corrected += one;
-            uncorrectable += 1 - one;
-        }
-        w += 1;
-    }
-    EccReport {
-        words,
-        corrected,
-        uncorrectable,
-    }
-}
-
-// The same by a table of its own.
+// Every word of the data that has its byte in the plane, by a table of its own.
 pub fn plane_scan(parity: &[u8], data: &[u8]) -> EccReport
     ensures { λ r. ⌜ asReport r ≡ sliceScan (now («data» .entry)) (now (parity .entry)) ⌝ }
 {
-    let mut table = [0u8; 2048];
-    place_checks(&mut table);
-    plane_scan_by(&table, parity, data)
+    let mut table = EMPTY_TABLE;
+    fill_check_table(&mut table);
+    plane_scan_with(&table, parity, data)
 }

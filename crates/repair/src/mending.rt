@@ -13,7 +13,7 @@ ghost use Rattle.paper.specs.Mend as paper;
 ghost use Rattle.paper.proofs.ScanLaw.{anyOf};
 ghost use Rattle.laws.specs.Steps.{copyVote, copyVotes, mendHeader, mendWords};
 ghost use Rattle.scan.specs.Answers.{asScan};
-ghost use Rattle.ecc.specs.Places.{placeChecks};
+ghost use Rattle.ecc.specs.CheckTable.{IsCheckTable};
 ghost use Rattle.repair.specs.Runs.{visitsAt};
 ghost use Rattle.repair.specs.Answers.{asMended, asMending, leftBy};
 ghost use Rattle.repair.specs.Counting.{Room, visitedBy, plus, met, scanned};
@@ -25,7 +25,9 @@ use super::counts::report;
 use super::counts::visit;
 use super::runs::run_of;
 use super::words::fix_word;
-use ecc::place_checks;
+use ecc::CheckTable;
+use ecc::EMPTY_TABLE;
+use ecc::fill_check_table;
 use error::Refusal;
 use scalar::maj3;
 use scan::Scan;
@@ -113,14 +115,14 @@ fn mend_header(bytes: &mut [u8], header: Header) -> usize
 
 // n words from word on, with check bytes from check on, ascending.
 fn fix_words(
-    table: &[u8; 2048],
+    table: &CheckTable,
     bytes: &mut [u8],
     word: usize,
     check: usize,
     n: usize,
     counts: Counts,
 ) -> Counts
-    requires { ⌜ (8 * (word + n) ≤ length (now bytes)) × (check + n ≤ length (now bytes)) × Room n counts × (now table ≡ placeChecks) ⌝ }
+    requires { ⌜ (8 * (word + n) ≤ length (now bytes)) × (check + n ≤ length (now bytes)) × Room n counts × IsCheckTable (now table) ⌝ }
     ensures leaves { λ r. ⌜ now (bytes .exit) ≡ paper.fixAll (pairsFrom n word check) (now (bytes .entry)) ⌝ }
     ensures tells { λ r. ⌜ r ≡ plus counts (met (now (bytes .entry)) (pairsFrom n word check)) ⌝ }
     ensures grows { λ r. ⌜ (r .words ≤ counts .words + n) × Room 0 r ⌝ }
@@ -137,13 +139,13 @@ fn fix_words(
 
 // Entry i of the image as it stands, if there is one.
 fn mend_region(
-    table: &[u8; 2048],
+    table: &CheckTable,
     bytes: &mut [u8],
     header: Header,
     i: u16,
     counts: Counts,
 ) -> Counts
-    requires { ⌜ Room (2 ^ 32) counts × (now table ≡ placeChecks) ⌝ }
+    requires { ⌜ Room (2 ^ 32) counts × IsCheckTable (now table) ⌝ }
     ensures leaves { λ r. ⌜ now (bytes .exit) ≡ paper.fixAll (examinedIn (visitsAt (header .«region_count») (now (bytes .entry)) i)) (now (bytes .entry)) ⌝ }
     ensures tells { λ r. ⌜ r ≡ plus (visitedBy counts (anyOf (visitsAt (header .«region_count») (now (bytes .entry)) i))) (met (now (bytes .entry)) (examinedIn (visitsAt (header .«region_count») (now (bytes .entry)) i))) ⌝ }
     ensures grows { λ r. ⌜ (r .words ≤ counts .words + 2 ^ 32) × Room 0 r ⌝ }
@@ -160,8 +162,8 @@ fn mend_words(bytes: &mut [u8], header: Header) -> Counts
     ensures tells { λ r. ⌜ r ≡ scanned (now (bytes .entry)) ⌝ }
 {
     let n = header.region_count;
-    let mut table = [0u8; 2048];
-    place_checks(&mut table);
+    let mut table = EMPTY_TABLE;
+    fill_check_table(&mut table);
     let mut counts = Counts {
         any: false,
         words: 0,

@@ -5,7 +5,7 @@ ghost use lib.ListN.{length};
 ghost use Rattle.paper.specs.Scan.{pairsFrom};
 ghost use Rattle.scan.specs.Answers.{asScan};
 ghost use Rattle.paper.specs.Scrub as paper;
-ghost use Rattle.ecc.specs.Places.{placeChecks};
+ghost use Rattle.ecc.specs.CheckTable.{IsCheckTable};
 ghost use Rattle.repair.specs.Counting.{Stands, scrubIn, Room};
 use super::counts::Counts;
 use super::counts::count_word;
@@ -13,7 +13,9 @@ use super::counts::report;
 use super::counts::visit;
 use super::runs::run_of;
 use super::words::scrub_word;
-use ecc::place_checks;
+use ecc::CheckTable;
+use ecc::EMPTY_TABLE;
+use ecc::fill_check_table;
 use scan::Scan;
 use view::Header;
 use view::ParseResult;
@@ -21,14 +23,14 @@ use view::parse;
 
 // n words from word on, with check bytes from check on, ascending.
 fn scrub_words(
-    table: &[u8; 2048],
+    table: &CheckTable,
     bytes: &mut [u8],
     word: usize,
     check: usize,
     n: usize,
     counts: Counts,
 ) -> Counts
-    requires { ⌜ (8 * (word + n) ≤ length (now bytes)) × (check + n ≤ length (now bytes)) × Room n counts × (now table ≡ placeChecks) ⌝ }
+    requires { ⌜ (8 * (word + n) ≤ length (now bytes)) × (check + n ≤ length (now bytes)) × Room n counts × IsCheckTable (now table) ⌝ }
     ensures is { λ r. ⌜ ((s : paper.State) → Stands counts (now (bytes .entry)) s → Stands r (now (bytes .exit)) (paper.scrubWords (pairsFrom n word check) s)) ⌝ }
     ensures grows { λ r. ⌜ (r .words ≤ counts .words + n) × Room 0 r ⌝ }
 {
@@ -44,13 +46,13 @@ fn scrub_words(
 
 // Entry i of the image as it stands, if there is one.
 fn scrub_region(
-    table: &[u8; 2048],
+    table: &CheckTable,
     bytes: &mut [u8],
     header: Header,
     i: u16,
     counts: Counts,
 ) -> Counts
-    requires { ⌜ Room (2 ^ 32) counts × (now table ≡ placeChecks) ⌝ }
+    requires { ⌜ Room (2 ^ 32) counts × IsCheckTable (now table) ⌝ }
     ensures grows { λ r. ⌜ (r .words ≤ counts .words + 2 ^ 32) × Room 0 r ⌝ }
     ensures is { λ r. ⌜ ((s : paper.State) → Stands counts (now (bytes .entry)) s → Stands r (now (bytes .exit)) (scrubIn (header .«region_count») i s)) ⌝ }
 {
@@ -68,8 +70,8 @@ pub fn scrub(bytes: &mut [u8]) -> Scan
     let ParseResult::Parsed(first) = parse(bytes) else {
         return Scan::Nothing;
     };
-    let mut table = [0u8; 2048];
-    place_checks(&mut table);
+    let mut table = EMPTY_TABLE;
+    fill_check_table(&mut table);
     let mut header = first;
     let mut written: usize = 0;
     let mut counts = Counts {

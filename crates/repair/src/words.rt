@@ -8,10 +8,11 @@ ghost use Rattle.paper.specs.Scan.{classAt};
 ghost use Rattle.paper.specs.Scrub.{storedWord};
 ghost use Rattle.paper.specs.Mend.{fixAt};
 ghost use Rattle.ecc.specs.Answers.{asOutcome};
-ghost use Rattle.ecc.specs.Places.{placeChecks};
+ghost use Rattle.ecc.specs.CheckTable.{IsCheckTable};
+use ecc::CheckTable;
 use ecc::WordStatus;
-use ecc::check_by;
-use ecc::decode_by;
+use ecc::check_byte_with;
+use ecc::decode_word_with;
 use scalar::u64_bytes;
 use scalar::u64_or_zero;
 
@@ -29,27 +30,27 @@ pub(crate) fn store_word(part: &mut [u8], value: u64)
 }
 
 // What a word and its check byte say, as they stand.
-fn status_at(table: &[u8; 2048], bytes: &[u8], word: usize, check: usize) -> WordStatus
-    requires { ⌜ (8 * word + 8 ≤ length (now bytes)) × (check < length (now bytes)) × (now table ≡ placeChecks) ⌝ }
+fn status_at(table: &CheckTable, bytes: &[u8], word: usize, check: usize) -> WordStatus
+    requires { ⌜ (8 * word + 8 ≤ length (now bytes)) × (check < length (now bytes)) × IsCheckTable (now table) ⌝ }
     ensures { λ r. ⌜ asOutcome r ≡ outcome (wordAt (now (bytes .entry)) word) (at (now (bytes .entry)) check) ⌝ }
 {
     let data = u64_or_zero(bytes, 8 * word);
     let found = bytes[check];
     // A clean word, which nearly every one is, is told by its check byte.
-    if check_by(table, data) == found {
+    if check_byte_with(table, data) == found {
         return WordStatus::Clean(data);
     }
-    decode_by(table, data, found)
+    decode_word_with(table, data, found)
 }
 
 // A word with its check byte. Only a corrected word is written, never its check byte.
 pub(crate) fn scrub_word(
-    table: &[u8; 2048],
+    table: &CheckTable,
     bytes: &mut [u8],
     word: usize,
     check: usize,
 ) -> WordStatus
-    requires { ⌜ (8 * word + 8 ≤ length (now bytes)) × (check < length (now bytes)) × (now table ≡ placeChecks) ⌝ }
+    requires { ⌜ (8 * word + 8 ≤ length (now bytes)) × (check < length (now bytes)) × IsCheckTable (now table) ⌝ }
     ensures is { λ r. ⌜ asOutcome r ≡ outcome (wordAt (now (bytes .entry)) word) (at (now (bytes .entry)) check) ⌝ }
     ensures stores { λ r. ⌜ now (bytes .exit) ≡ storedWord (classAt (now (bytes .entry)) (record { word = word; check = check })) (record { word = word; check = check }) (now (bytes .entry)) ⌝ }
 {
@@ -68,12 +69,12 @@ pub(crate) fn scrub_word(
 
 // A word with its check byte. A corrected word is written with the check byte that it has to have.
 pub(crate) fn fix_word(
-    table: &[u8; 2048],
+    table: &CheckTable,
     bytes: &mut [u8],
     word: usize,
     check: usize,
 ) -> WordStatus
-    requires { ⌜ (8 * word + 8 ≤ length (now bytes)) × (check < length (now bytes)) × (now table ≡ placeChecks) ⌝ }
+    requires { ⌜ (8 * word + 8 ≤ length (now bytes)) × (check < length (now bytes)) × IsCheckTable (now table) ⌝ }
     ensures is { λ r. ⌜ asOutcome r ≡ outcome (wordAt (now (bytes .entry)) word) (at (now (bytes .entry)) check) ⌝ }
     ensures stores { λ r. ⌜ now (bytes .exit) ≡ fixAt (record { word = word; check = check }) (now (bytes .entry)) ⌝ }
 {
@@ -83,7 +84,7 @@ pub(crate) fn fix_word(
     match status {
         WordStatus::Clean(_) => {}
         WordStatus::Corrected(fixed) => {
-            bytes[check] = check_by(table, fixed);
+            bytes[check] = check_byte_with(table, fixed);
             store_word(&mut bytes[start..end], fixed);
         }
         WordStatus::Uncorrectable => {}

@@ -8,13 +8,15 @@ ghost use Rattle.paper.specs.Bytes.{part};
 ghost use Rattle.paper.specs.Scan.{sliceScan, visitOf, scanRegion, scanIn};
 ghost use Rattle.paper.specs.Scrub.{visitAt};
 ghost use Rattle.ecc.specs.Answers.{asReport};
-ghost use Rattle.ecc.specs.Places.{placeChecks};
+ghost use Rattle.ecc.specs.CheckTable.{IsCheckTable};
 ghost use Rattle.layout.specs.Regions.{asEntry};
 ghost use Rattle.scan.specs.Answers.{Few, asScan, scanAgainst};
 ghost use Rattle.scan.specs.Totals.{asTotals, add, Small};
+use ecc::CheckTable;
+use ecc::EMPTY_TABLE;
 use ecc::EccReport;
-use ecc::place_checks;
-use ecc::plane_scan_by;
+use ecc::fill_check_table;
+use ecc::plane_scan_with;
 use layout::Region;
 use tables::PartSpan;
 use tables::Place;
@@ -34,14 +36,14 @@ pub fn verify_region(bytes: &[u8], header: Header, region: Region) -> Scan
     ensures is { λ r. ⌜ asScan r ≡ scanRegion (header .«region_count») (now (bytes .entry)) (asEntry region) ⌝ }
     ensures few { λ r. ⌜ Few (region .«word_length») r ⌝ }
 {
-    let mut table = [0u8; 2048];
-    place_checks(&mut table);
+    let mut table = EMPTY_TABLE;
+    fill_check_table(&mut table);
     verify_by(&table, bytes, header, region)
 }
 
 // The same by a table of check bytes, which is made once for an image.
-fn verify_by(table: &[u8; 2048], bytes: &[u8], header: Header, region: Region) -> Scan
-    requires { ⌜ now table ≡ placeChecks ⌝ }
+fn verify_by(table: &CheckTable, bytes: &[u8], header: Header, region: Region) -> Scan
+    requires { ⌜ IsCheckTable (now table) ⌝ }
     ensures is { λ r. ⌜ asScan r ≡ scanRegion (header .«region_count») (now (bytes .entry)) (asEntry region) ⌝ }
     ensures few { λ r. ⌜ Few (region .«word_length») r ⌝ }
 {
@@ -53,8 +55,8 @@ fn verify_by(table: &[u8; 2048], bytes: &[u8], header: Header, region: Region) -
 }
 
 // A region against the plane from start to end.
-fn scan_against(table: &[u8; 2048], bytes: &[u8], region: Region, start: usize, end: usize) -> Scan
-    requires { ⌜ (start ≤ end) × (end ≤ length (now bytes)) × (now table ≡ placeChecks) ⌝ }
+fn scan_against(table: &CheckTable, bytes: &[u8], region: Region, start: usize, end: usize) -> Scan
+    requires { ⌜ (start ≤ end) × (end ≤ length (now bytes)) × IsCheckTable (now table) ⌝ }
     ensures is { λ r. ⌜ asScan r ≡ scanAgainst (now (bytes .entry)) (bytesSpan (length (now (bytes .entry))) (asEntry region)) start end ⌝ }
     ensures few { λ r. ⌜ region .«word_length» < 2 ^ 32 ⌝ }
 {
@@ -63,7 +65,7 @@ fn scan_against(table: &[u8; 2048], bytes: &[u8], region: Region, start: usize, 
     if bytes.len() < to {
         return Scan::Nothing;
     }
-    Scan::Report(plane_scan_by(table, &bytes[start..end], &bytes[from..to]))
+    Scan::Report(plane_scan_with(table, &bytes[start..end], &bytes[from..to]))
 }
 
 // What is counted so far, and whether any region was visited.
@@ -76,13 +78,13 @@ struct Total {
 
 // One region more: it counts if it is no plane, is flagged 2 and has a plane.
 fn add_region(
-    table: &[u8; 2048],
+    table: &CheckTable,
     bytes: &[u8],
     header: Header,
     region: Region,
     total: Total,
 ) -> Total
-    requires { ⌜ Small 65535 total × (now table ≡ placeChecks) ⌝ }
+    requires { ⌜ Small 65535 total × IsCheckTable (now table) ⌝ }
     ensures is { λ r. ⌜ asTotals r ≡ add (now (bytes .entry)) (visitOf (length (now (bytes .entry))) (seen (header .«region_count») (now (bytes .entry))) (asEntry region)) (asTotals total) ⌝ }
     ensures small { λ r. ⌜ ((i : ℕ) → Small i total → Small (i + 1) r) ⌝ }
 {
@@ -104,8 +106,8 @@ fn add_region(
 }
 
 // Entry i, if there is one.
-fn add_entry(table: &[u8; 2048], bytes: &[u8], header: Header, i: u16, total: Total) -> Total
-    requires { ⌜ Small i total × (now table ≡ placeChecks) ⌝ }
+fn add_entry(table: &CheckTable, bytes: &[u8], header: Header, i: u16, total: Total) -> Total
+    requires { ⌜ Small i total × IsCheckTable (now table) ⌝ }
     ensures is { λ r. ⌜ asTotals r ≡ add (now (bytes .entry)) (visitAt (length (now (bytes .entry))) (seen (header .«region_count») (now (bytes .entry))) (regionAt (header .«region_count») (now (bytes .entry)) i)) (asTotals total) ⌝ }
     ensures small { λ r. ⌜ Small (i + 1) r ⌝ }
 {
@@ -120,8 +122,8 @@ pub fn verify_all(bytes: &[u8], header: Header) -> Scan
     ensures { λ r. ⌜ asScan r ≡ scanIn (header .«region_count») (now (bytes .entry)) ⌝ }
 {
     let n = header.region_count;
-    let mut table = [0u8; 2048];
-    place_checks(&mut table);
+    let mut table = EMPTY_TABLE;
+    fill_check_table(&mut table);
     let mut total = Total {
         any: false,
         words: 0,

@@ -11,8 +11,8 @@ use Rattle.paper.specs.Views.{bytesSpan}
 use borrow.Author.Tests.{lt-ltb, le-ltb}
 use Rattle.paper.specs.Bytes.{part}
 use Rattle.paper.specs.Scan.{sliceScan}
-use Rattle.ecc.specs.Places.{sliceScanBy}
-use Rattle.ecc.proofs.PlacesLaw.{places-scan}
+use Rattle.ecc.specs.CheckTable.{sliceScanWith}
+use Rattle.ecc.proofs.CheckTableLaw.{table-scan}
 use Rattle.layout.specs.declared.Region.{Region}
 use Rattle.layout.specs.Regions.{asEntry}
 use Rattle.scan.specs.Answers.{scanAgainst}
@@ -45,7 +45,7 @@ returns-2 c =
     let r = g .region in
     let data′ = part x (8 * r .«word_offset») (8 * r .«word_offset» + 8 * r .«word_length») in
     let plane = part x (g .start) (g .end) in (
-      ap some (c .plane-scan-by .ensures ∙ ap (λ (t : List ℕ). sliceScanBy t data′ plane) (k .before .before .before .before .pre .2) ∙ places-scan data′ plane)
+      ap some (c .plane-scan-with .ensures ∙ ap (λ (t : List ℕ). sliceScanWith t data′ plane) (k .before .before .before .before .pre .2) ∙ table-scan data′ plane)
           ∙ within x r (g .start) (g .end) (k .if1 .left),
       omega (arith, k .before .struct-known2 .given),
     )

@@ -23,7 +23,7 @@ loop-holds : tie.Need-loop-holds Inv-loop μ-loop
 loop-holds c = (omega arith, record { words = omega arith; corrected = omega arith; uncorrectable = omega arith }, refl)
 
 add-entry-requires : tie.Need-add-entry-requires Inv-loop μ-loop
-add-entry-requires c κs = (c .before .before .loop .inv .1, c .before .before .before .place-checks .ensures)
+add-entry-requires c κs = (c .before .before .loop .inv .1, c .before .before .before .fill-check-table .ensures)
 
 loop-again : tie.Need-loop-again Inv-loop μ-loop
 unfolding regionAt

@@ -28,7 +28,7 @@ loop-holds c =
 mend-region-requires : tie.Need-mend-region-requires Inv-loop μ-loop
 mend-region-requires c κs =
     let r = c .before .before .before .loop .inv .3 in
-    (record { words = omega arith; corrected = r .corrected; uncorrectable = r .uncorrectable }, c .before .before .before .before .place-checks .ensures)
+    (record { words = omega arith; corrected = r .corrected; uncorrectable = r .uncorrectable }, c .before .before .before .before .fill-check-table .ensures)
 
 loop-again : tie.Need-loop-again Inv-loop μ-loop
 loop-again c =

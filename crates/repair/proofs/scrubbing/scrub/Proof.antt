@@ -112,7 +112,7 @@ scrub-region-requires : tie.Need-scrub-region-requires Inv-loop μ-loop
 scrub-region-requires c κs =
     let a = c .before .before .before .before .before .before in
     let r = a .loop .inv .3 in
-    (record { words = omega arith; corrected = r .corrected; uncorrectable = r .uncorrectable }, a .before .place-checks .ensures)
+    (record { words = omega arith; corrected = r .corrected; uncorrectable = r .uncorrectable }, a .before .fill-check-table .ensures)
 
 loop-again : tie.Need-loop-again Inv-loop μ-loop
 loop-again c =

@@ -10,8 +10,8 @@ use Rattle.paper.specs.Bytes.{le}
 use borrow.Rule.Slice.PartMut.{putMid}
 use Rattle.paper.proofs.BytesLaw.{length-le}
 use Rattle.ecc.specs.Answers.{asOutcome}
-use Rattle.ecc.specs.Places.{checkBy}
-use Rattle.ecc.proofs.PlacesLaw.{places-check}
+use Rattle.ecc.specs.CheckTable.{checkWith}
+use Rattle.ecc.proofs.CheckTableLaw.{table-check}
 use Rattle.repair.proofs.OutcomeLaw.{put-part, fix-clean, fix-lost, fix-put}
 use Rattle.repair.proofs.words.fix_word.Statement.{statement}
 use Rattle.repair.proofs.words.fix_word.Tie as tie
@@ -25,12 +25,12 @@ returns c =
 same-length-2 : tie.Need-same-length-2
 same-length-2 c =
     let g = c .before .before .before .before .before .before .before .before .before .before .before .args in
-    omega (arith, c .before .bytes .given, length-set (now (g .bytes)) (g .check) (c .before .before .before .before .check-by .result))
+    omega (arith, c .before .bytes .given, length-set (now (g .bytes)) (g .check) (c .before .before .before .before .check-byte-with .result))
 
 returns-2 : tie.Need-returns-2
 returns-2 c =
     let w = c .before .before .store-word in
-    let k = c .before .before .before .before .check-by in
+    let k = c .before .before .before .before .check-byte-with in
     let t = c .before .before .before .before .before .before .status .given in
     let d = c .before .before .before .before .before .before .before .before .status-at in
     let s = c .before .before .before .before .before .before .before .before .before .before .before in
@@ -42,7 +42,7 @@ returns-2 c =
       e,
       ap (putMid (8 * g .word) (8 * g .word + 8 - 8 * g .word) y) (w .ensures)
           ∙ put-part y (le 8 v) (8 * g .word) (8 * g .word + 8) (omega arith) (omega (arith, length-set x (g .check) (k .result), s .pre .0)) (length-le 8 v ∙ omega arith)
-          ∙ fix-put x (record { word = g .word; check = g .check }) v (k .result) e (k .ensures ∙ ap (λ (z : List ℕ). checkBy z v) (s .pre .2) ∙ places-check v),
+          ∙ fix-put x (record { word = g .word; check = g .check }) v (k .result) e (k .ensures ∙ ap (λ (z : List ℕ). checkWith z v) (s .pre .2) ∙ table-check v),
     )
 
 returns-3 : tie.Need-returns-3

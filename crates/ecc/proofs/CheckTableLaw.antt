@@ -18,13 +18,13 @@ use Rattle.paper.specs.Parity.{columns, checkOf, Class, classOf, syndrome, deco
 use Rattle.paper.specs.Scan.{report, sliceWords, sliceScan}
 use Rattle.paper.proofs.BytesLaw.{length-tab, getD-tab, tab-ext}
 use Rattle.paper.proofs.ParityLaw.{check-linear}
-use Rattle.ecc.specs.Places.{placeCheck, placeChecks, Filled, placeBy, placesBy, checkBy, decodeBy, outcomeBy, sliceScanBy}
+use Rattle.ecc.specs.CheckTable.{entryAt, checkTable, Filled, entryFor, entriesTo, checkWith, decodeWith, outcomeWith, sliceScanWith}
 
 -- ---- one entry
 
 -- entry b of place k
-entry : (k b : ℕ) → b < 256 → placeCheck (256 * k + b) ≡ checkOf (b * 2 ^ (8 * k))
-unfolding placeCheck
+entry : (k b : ℕ) → b < 256 → entryAt (256 * k + b) ≡ checkOf (b * 2 ^ (8 * k))
+unfolding entryAt
 entry k b h =
     let d : (256 * k + b) / 256 ≡ k = omega arith in
     let m : (256 * k + b) % 256 ≡ b = omega arith in
@@ -38,11 +38,11 @@ pub bit-fits : (i : ℕ) → i < 8 → 2 ^ i + 2 ^ i ≤ 256
 bit-fits i h = omega (arith, pow-suc 2 i, pow-mono {i = suc i} {j = 8} h)
 
 -- a byte with bit i as its highest has a lower one's entry, with the column of that bit put in
-pub twice : (k i j : ℕ) → k < 8 → i < 8 → j < 2 ^ i → placeCheck (256 * k + 2 ^ i + j) ≡ bitXor (placeCheck (256 * k + j)) (at columns (8 * k + i))
+pub twice : (k i j : ℕ) → k < 8 → i < 8 → j < 2 ^ i → entryAt (256 * k + 2 ^ i + j) ≡ bitXor (entryAt (256 * k + j)) (at columns (8 * k + i))
 twice k i j hk hi hj =
     let t = bit-fits i hi in
     let g : 256 * k + 2 ^ i + j ≡ 256 * k + (2 ^ i + j) = omega arith in
-    ap placeCheck g
+    ap entryAt g
     ∙ entry k (2 ^ i + j) (omega arith)
     ∙ ap (λ (n : ℕ). checkOf (n * 2 ^ (8 * k))) top
     ∙ ap checkOf (xor-shl j (2 ^ i) (8 * k) ∙ ap (bitXor (j * 2 ^ (8 * k))) moved)
@@ -60,36 +60,36 @@ twice k i j hk hi hj =
 pub empty : (t : List ℕ) → length t ≡ 2048 → Filled 0 t
 empty t e = record { long = e; right = λ i h. absurd (omega arith) }
 
-pub put : (n v : ℕ) (t : List ℕ) → n < 2048 → v ≡ placeCheck n → Filled n t → Filled (n + 1) (set t n v)
+pub put : (n v : ℕ) (t : List ℕ) → n < 2048 → v ≡ entryAt n → Filled n t → Filled (n + 1) (set t n v)
 put n v t h e f =
     record {
       long = length-set t n v ∙ f .long;
       right =
-          below-more (λ i. at (set t n v) i ≡ placeCheck i) n
+          below-more (λ i. at (set t n v) i ≡ entryAt i) n
           (λ i l. getD-set-other t n i v 0 (omega arith) ∙ f .right i l)
           (getD-set-same t n v 0 (omega (arith, f .long)) ∙ e);
     }
 
 -- byte 0 of a place
-pub first : (k : ℕ) → 0 ≡ placeCheck (256 * k)
+pub first : (k : ℕ) → 0 ≡ entryAt (256 * k)
 unfolding checkOf
 first k =
     let z : 256 * k + 0 ≡ 256 * k = omega arith in
-    sym (syn-zero (take 64 columns)) ∙ ap checkOf (sym (zero-mul (2 ^ (8 * k)))) ∙ sym (entry k 0 (lit< tt)) ∙ ap placeCheck z
+    sym (syn-zero (take 64 columns)) ∙ ap checkOf (sym (zero-mul (2 ^ (8 * k)))) ∙ sym (entry k 0 (lit< tt)) ∙ ap entryAt z
 
-pub all-filled : (t : List ℕ) → Filled 2048 t → t ≡ placeChecks
-unfolding placeChecks
+pub all-filled : (t : List ℕ) → Filled 2048 t → t ≡ checkTable
+unfolding checkTable
 all-filled t f =
-    ext-getD 0 t (tab 2048 placeCheck) (f .long ∙ sym (length-tab 2048 placeCheck))
-    (λ i h. f .right i (omega (arith, f .long)) ∙ sym (getD-tab 2048 placeCheck i 0 (omega (arith, f .long))))
+    ext-getD 0 t (tab 2048 entryAt) (f .long ∙ sym (length-tab 2048 entryAt))
+    (λ i h. f .right i (omega (arith, f .long)) ∙ sym (getD-tab 2048 entryAt i 0 (omega (arith, f .long))))
 
 -- ---- a word by its places
 
 -- the entries one by one, as the code has them
-pub eight : (t : List ℕ) (w : ℕ) {a b c d e f g h : ℕ} → a ≡ placeBy t w 0 → b ≡ placeBy t w 1 → c ≡ placeBy t w 2 → d ≡ placeBy t w 3
-    → e ≡ placeBy t w 4 → f ≡ placeBy t w 5 → g ≡ placeBy t w 6 → h ≡ placeBy t w 7
-    → bitXor (bitXor (bitXor (bitXor (bitXor (bitXor (bitXor a b) c) d) e) f) g) h ≡ checkBy t w
-unfolding checkBy placesBy
+pub eight : (t : List ℕ) (w : ℕ) {a b c d e f g h : ℕ} → a ≡ entryFor t w 0 → b ≡ entryFor t w 1 → c ≡ entryFor t w 2 → d ≡ entryFor t w 3
+    → e ≡ entryFor t w 4 → f ≡ entryFor t w 5 → g ≡ entryFor t w 6 → h ≡ entryFor t w 7
+    → bitXor (bitXor (bitXor (bitXor (bitXor (bitXor (bitXor a b) c) d) e) f) g) h ≡ checkWith t w
+unfolding checkWith entriesTo
 eight t w p q r s u v x y =
     ap₂ bitXor (ap₂ bitXor (ap₂ bitXor (ap₂ bitXor (ap₂ bitXor (ap₂ bitXor (ap₂ bitXor p q) r) s) u) v) x) y
 
@@ -108,21 +108,21 @@ syn-past (c ∷ cs) n =
     shifted = ap (λ (k : ℕ). n * k) (pow-suc 2 (length cs)) ∙ sym (mul-assoc n (2 ^ length cs) 2)
 
 module _ (w : ℕ) where
-  place-entry : (k : ℕ) → k < 8 → placeBy placeChecks w k ≡ checkOf (w / 2 ^ (8 * k) % 256 * 2 ^ (8 * k))
-  unfolding placeChecks
-  place-entry k h =
+  table-entry : (k : ℕ) → k < 8 → entryFor checkTable w k ≡ checkOf (w / 2 ^ (8 * k) % 256 * 2 ^ (8 * k))
+  unfolding checkTable
+  table-entry k h =
       let b : w / 2 ^ (8 * k) % 256 < 256 = mod-lt (w / 2 ^ (8 * k)) (lit< tt) in
-      getD-tab 2048 placeCheck (256 * k + w / 2 ^ (8 * k) % 256) 0 (omega arith) ∙ entry k (w / 2 ^ (8 * k) % 256) b
+      getD-tab 2048 entryAt (256 * k + w / 2 ^ (8 * k) % 256) 0 (omega arith) ∙ entry k (w / 2 ^ (8 * k) % 256) b
 
   -- places 0 to k make the check byte of the word's low 8 * (k + 1) bits
-  places-low : (k : ℕ) → k < 8 → placesBy placeChecks w k ≡ checkOf (w % 2 ^ (8 * (k + 1)))
-  unfolding placesBy checkOf
-  places-low zero h = place-entry 0 h ∙ ap checkOf (mul-one (w / 1 % 256) ∙ ap (λ (n : ℕ). n % 256) (div-one w))
-  places-low (suc k) h =
+  table-low : (k : ℕ) → k < 8 → entriesTo checkTable w k ≡ checkOf (w % 2 ^ (8 * (k + 1)))
+  unfolding entriesTo checkOf
+  table-low zero h = table-entry 0 h ∙ ap checkOf (mul-one (w / 1 % 256) ∙ ap (λ (n : ℕ). n % 256) (div-one w))
+  table-low (suc k) h =
       let m : 8 * (k + 1) ≡ 8 * suc k = omega arith in
       let n : 8 + 8 * suc k ≡ 8 * (suc k + 1) = omega arith in
       let q = w / 2 ^ (8 * suc k) % 256 in
-      ap₂ bitXor (places-low k (omega arith) ∙ ap (λ (i : ℕ). checkOf (w % 2 ^ i)) m) (place-entry (suc k) h)
+      ap₂ bitXor (table-low k (omega arith) ∙ ap (λ (i : ℕ). checkOf (w % 2 ^ i)) m) (table-entry (suc k) h)
       ∙ sym (syn-xor (take 64 columns) (w % 2 ^ (8 * suc k)) (q * 2 ^ (8 * suc k)))
       ∙ ap checkOf
       (xor-comm (w % 2 ^ (8 * suc k)) (q * 2 ^ (8 * suc k))
@@ -137,23 +137,23 @@ module _ (w : ℕ) where
       ∙ sym (syn-xor (take 64 columns) (w / 2 ^ 64 * 2 ^ 64) (w % 2 ^ 64))
       ∙ ap (syn (take 64 columns)) (xor-shifted (w / 2 ^ 64) 64 (w % 2 ^ 64) (mod-lt w (pow-pos 64)) ∙ split w 64)
 
-  pub places-check : checkBy placeChecks w ≡ checkOf w
-  unfolding checkBy
-  places-check = places-low 7 (lit< tt) ∙ low-bits
+  pub table-check : checkWith checkTable w ≡ checkOf w
+  unfolding checkWith
+  table-check = table-low 7 (lit< tt) ∙ low-bits
 
   module _ (c : ℕ) where
-    pub places-decode : decodeBy placeChecks w c ≡ decode w c
-    unfolding decodeBy decode syndrome
-    places-decode = ap (λ (k : ℕ). classOf (bitXor k c)) places-check
+    pub table-decode : decodeWith checkTable w c ≡ decode w c
+    unfolding decodeWith decode syndrome
+    table-decode = ap (λ (k : ℕ). classOf (bitXor k c)) table-check
 
-    pub places-outcome : outcomeBy placeChecks w c ≡ outcome w c
-    unfolding outcomeBy outcome
-    places-outcome = ap (λ (k : Class). outcomeAs k w) places-decode
+    pub table-outcome : outcomeWith checkTable w c ≡ outcome w c
+    unfolding outcomeWith outcome
+    table-outcome = ap (λ (k : Class). outcomeAs k w) table-decode
 
 -- the words of a run of bytes
-pub places-scan : (x plane : List ℕ) → sliceScanBy placeChecks x plane ≡ sliceScan x plane
-unfolding sliceScanBy sliceScan
-places-scan x plane =
+pub table-scan : (x plane : List ℕ) → sliceScanWith checkTable x plane ≡ sliceScan x plane
+unfolding sliceScanWith sliceScan
+table-scan x plane =
     ap report
-    (tab-ext (sliceWords x plane) (λ w. decodeBy placeChecks (wordAt x w) (at plane w)) (λ w. decode (wordAt x w) (at plane w))
-    (λ w h. places-decode (wordAt x w) (at plane w)))
+    (tab-ext (sliceWords x plane) (λ w. decodeWith checkTable (wordAt x w) (at plane w)) (λ w. decode (wordAt x w) (at plane w))
+    (λ w h. table-decode (wordAt x w) (at plane w)))

@@ -1,12 +1,12 @@
--- `ecc::places::place_checks` meets its contract. The invariant: the places passed are filled. Assumes nothing.
+-- `ecc::check_table::fill_check_table` meets its contract. The invariant: the places passed are filled. Assumes nothing.
 use mathlib.Core.Path.{_≡_, refl, subst}
 use Prim.Native.Nat.{ℕ, _-_, _*_, _≤_}
 use native.Mathlib.Omega.{arith}
 use Rattle.paper.specs.Parity.{columns}
-use Rattle.ecc.specs.Places.{Filled}
-use Rattle.ecc.proofs.PlacesLaw.{empty, all-filled}
-use Rattle.ecc.proofs.places.place_checks.Statement.{statement}
-use Rattle.ecc.proofs.places.place_checks.Tie as tie
+use Rattle.ecc.specs.CheckTable.{Filled}
+use Rattle.ecc.proofs.CheckTableLaw.{empty, all-filled}
+use Rattle.ecc.proofs.check_table.fill_check_table.Statement.{statement}
+use Rattle.ecc.proofs.check_table.fill_check_table.Tie as tie
 
 abbrev Inv-loop : tie.InvT-loop
 Inv-loop table₀ columns′ k₀ table k = (k ≤ 8) × Filled (256 * k) table
@@ -30,7 +30,7 @@ returns c =
     let e : 256 * l .k ≡ 2048 = omega arith in
     all-filled (l .table) (subst (λ (n : ℕ). Filled n (l .table)) e (l .inv .1))
 
-pub place-checks-spec : {M : Type 1} → statement M
-place-checks-spec =
+pub fill-check-table-spec : {M : Type 1} → statement M
+fill-check-table-spec =
     tie.close
     (tie.spec Inv-loop μ-loop loop-holds fill-place-requires (λ c. omega arith) (λ c. omega arith) loop-again returns)

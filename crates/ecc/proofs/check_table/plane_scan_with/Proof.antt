@@ -1,4 +1,4 @@
--- `ecc::plane_scan_by` meets its contract. The invariant: what was counted, with the count of the words to come, is the report's.
+-- `ecc::check_table::plane_scan_with` meets its contract. The invariant: what was counted, with the count of the words to come, is the report's.
 use mathlib.Core.Path.{_≡_, sym, ap, _∙_, subst}
 use mathlib.Core.Logic.{⊎-elim}
 use Prim.Native.Nat.{ℕ, _-_, _≤_, _<_}
@@ -9,8 +9,8 @@ use Rattle.paper.specs.Parity.{classOf}
 use Rattle.paper.specs.Scan.{isCorrected, isLost, sliceWords}
 use Rattle.paper.proofs.ParityLaw.{class-zero}
 use Rattle.ecc.proofs.PlaneLaw.{syndrome-read, Counted, turn, scanned}
-use Rattle.ecc.proofs.plane_scan_by.Statement.{statement}
-use Rattle.ecc.proofs.plane_scan_by.Tie as tie
+use Rattle.ecc.proofs.check_table.plane_scan_with.Statement.{statement}
+use Rattle.ecc.proofs.check_table.plane_scan_with.Tie as tie
 
 abbrev Inv-loop : tie.InvT-loop
 Inv-loop table parity «data» words corrected₀ uncorrectable₀ w₀ corrected uncorrectable w =
@@ -34,7 +34,7 @@ loop-again c =
     let w = l .loop .w in
     let v = u .u64-or-zero .result in
     let h : w < sliceWords x y = omega (arith, p .plane-words .ensures .0) in
-    let d = syndrome-read x y w v (omega arith) (u .u64-or-zero .ensures) table (k .check-by .ensures) in
+    let d = syndrome-read x y w v (omega arith) (u .u64-or-zero .ensures) table (k .check-byte-with .ensures) in
     ⊎-elim
     (λ t.
     let o = t .1 in (
@@ -67,8 +67,8 @@ returns c =
     (subst (λ (w : ℕ). Counted isCorrected table x y w (l .loop .corrected)) e (l .loop .inv .3))
     (subst (λ (w : ℕ). Counted isLost table x y w (l .loop .uncorrectable)) e (l .loop .inv .4))
 
-pub plane-scan-by-spec : {M : Type 1} → statement M
-plane-scan-by-spec =
+pub plane-scan-with-spec : {M : Type 1} → statement M
+plane-scan-with-spec =
     tie.close
     (tie.spec
     Inv-loop

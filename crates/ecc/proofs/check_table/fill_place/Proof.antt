@@ -1,14 +1,14 @@
--- `ecc::places::fill_place` meets its contract. The invariant: the table is filled up to byte 2 ^ i of the place. Assumes nothing.
+-- `ecc::check_table::fill_place` meets its contract. The invariant: the table is filled up to byte 2 ^ i of the place. Assumes nothing.
 use mathlib.Core.Path.{_≡_, ap, subst}
 use mathlib.Core.List.{List}
 use Prim.Native.Nat.{ℕ, _+_, _-_, _*_, _^_, _≤_}
 use native.Mathlib.Omega.{arith}
 use denote.Ref.{now}
 use Rattle.paper.specs.Bytes.{at}
-use Rattle.ecc.specs.Places.{Filled}
-use Rattle.ecc.proofs.PlacesLaw.{first, put}
-use Rattle.ecc.proofs.places.fill_place.Statement.{statement}
-use Rattle.ecc.proofs.places.fill_place.Tie as tie
+use Rattle.ecc.specs.CheckTable.{Filled}
+use Rattle.ecc.proofs.CheckTableLaw.{first, put}
+use Rattle.ecc.proofs.check_table.fill_place.Statement.{statement}
+use Rattle.ecc.proofs.check_table.fill_place.Tie as tie
 
 abbrev Inv-loop : tie.InvT-loop
 Inv-loop table₀ columns k i₀ table i = (i ≤ 8) × Filled (256 * k + 2 ^ i) table

@@ -1,4 +1,4 @@
--- `ecc::places::fill_bit` meets its contract. The invariant: the table is filled up to entry `first + count + j`. Assumes nothing.
+-- `ecc::check_table::fill_bit` meets its contract. The invariant: the table is filled up to entry `first + count + j`. Assumes nothing.
 use mathlib.Core.Path.{_≡_, ap, _∙_, subst, sym}
 use Prim.Native.Nat.{ℕ, _+_, _-_, _*_, _%_, _^_, _≤_}
 use native.Mathlib.Nat.{pow-suc}
@@ -7,10 +7,10 @@ use native.Mathlib.Omega.{arith}
 use borrow.Author.Needs.{needs}
 use lib.Bits.{bitXor}
 use Rattle.paper.specs.Bytes.{at}
-use Rattle.ecc.specs.Places.{placeCheck, Filled}
-use Rattle.ecc.proofs.PlacesLaw.{bit-count, bit-fits, twice, put}
-use Rattle.ecc.proofs.places.fill_bit.Statement.{statement}
-use Rattle.ecc.proofs.places.fill_bit.Tie as tie
+use Rattle.ecc.specs.CheckTable.{entryAt, Filled}
+use Rattle.ecc.proofs.CheckTableLaw.{bit-count, bit-fits, twice, put}
+use Rattle.ecc.proofs.check_table.fill_bit.Statement.{statement}
+use Rattle.ecc.proofs.check_table.fill_bit.Tie as tie
 
 abbrev Inv-loop : tie.InvT-loop
 Inv-loop table₀ k i column first count j₀ table j =
@@ -38,7 +38,7 @@ loop-again c =
       omega arith,
       rw (l .inv .0, n)
           (put (256 * g .k + 2 ^ g .i + l .j) (bitXor (at t (256 * g .k + l .j)) (g .column)) t (omega arith)
-          (ap (λ (v : ℕ). bitXor v (g .column)) (l .inv .3 .right (256 * g .k + l .j) (omega arith)) ∙ ap (bitXor (placeCheck (256 * g .k + l .j))) (s .pre .2)
+          (ap (λ (v : ℕ). bitXor v (g .column)) (l .inv .3 .right (256 * g .k + l .j) (omega arith)) ∙ ap (bitXor (entryAt (256 * g .k + l .j))) (s .pre .2)
           ∙ sym (twice (g .k) (g .i) (l .j) (s .pre .0) (s .pre .1) (omega arith)))
           (rw (l .inv .0) at (l .inv .3))),
     )
