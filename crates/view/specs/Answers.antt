@@ -8,18 +8,12 @@ use Rattle.view.specs.declared.regions.RegionAt.{RegionAt}
 use Rattle.view.specs.declared.regions.RegionAt.the-variants as found
 use Rattle.paper.specs.Refusals.{Verdict, fine, refuse}
 use Rattle.paper.specs.Parse.{Parsed, accepted, refused}
-use Rattle.error.specs.Refused.{numberOf, detailOf, asVerdict}
+use Rattle.error.specs.Refused.{numberOf, detailOf}
 use Rattle.view.specs.declared.header.Header.{Header}
 use Rattle.view.specs.declared.header.ParseResult.{ParseResult}
 use Rattle.view.specs.declared.header.ParseResult.the-variants as parse
-use Rattle.view.specs.declared.header.Check.{Check}
-use Rattle.view.specs.declared.header.Check.the-variants as check
 use Rattle.view.specs.declared.header.Counted.{Counted}
 use Rattle.view.specs.declared.header.Counted.the-variants as counted
-
-abbrev pub asCheck : Check → Verdict
-asCheck check.Fine = fine
-asCheck (check.Refuse r) = asVerdict r
 
 -- a verdict, with a count where it is fine
 pub data Answer : Type 0 where
