@@ -2,6 +2,7 @@ pub mod VerdictLaw
 pub mod BytesLow
 pub mod HeaderLaw
 pub mod EntriesLaw
+pub mod NthLaw
 pub mod PairLaw
 pub mod CodeLaw
 pub mod Fold

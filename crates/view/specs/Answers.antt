@@ -8,6 +8,7 @@ use Rattle.view.specs.declared.regions.RegionAt.{RegionAt}
 use Rattle.view.specs.declared.regions.RegionAt.the-variants as found
 use Rattle.paper.specs.Refusals.{Verdict, fine, refuse}
 use Rattle.paper.specs.Parse.{Parsed, accepted, refused}
+use Rattle.paper.specs.Parse as paper
 use Rattle.error.specs.Refused.{numberOf, detailOf}
 use Rattle.view.specs.declared.header.Header.{Header}
 use Rattle.view.specs.declared.header.ParseResult.{ParseResult}
@@ -28,14 +29,16 @@ abbrev pub asCounted : Counted → Answer
 asCounted (counted.Count n) = fineWith n
 asCounted (counted.Refuse r) = refusedWith (numberOf r) (detailOf r)
 
-abbrev pub asParsed : ParseResult → Parsed
-asParsed (parse.Parsed h) =
-    accepted
-    (record {
+abbrev pub asHeader : Header → paper.Header
+asHeader h =
+    record {
       regions = h .«region_count»;
       prologueDisagreed = h .«prologue_disagreed»;
       directoryDisagreed = h .«directory_disagreed»;
-    })
+    }
+
+abbrev pub asParsed : ParseResult → Parsed
+asParsed (parse.Parsed h) = accepted (asHeader h)
 asParsed (parse.Refused r) = refused (numberOf r) (detailOf r)
 
 -- an entry, as the region that is handed out
