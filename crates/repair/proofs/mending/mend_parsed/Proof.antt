@@ -9,8 +9,9 @@ use Rattle.paper.specs.Layout.{count}
 use Rattle.paper.specs.Mend as paper
 use Rattle.paper.proofs.ParseLaw.{accepted-few}
 use Rattle.repair.specs.Answers.{leftBy}
-use Rattle.repair.specs.Earlier.{asCheck}
-use Rattle.repair.proofs.MendingLaw.{seen-is, apart-refused, apart-fine, mend-fine}
+use Rattle.error.specs.Refused.{asCheck}
+use Rattle.view.proofs.SeenLaw.{seen-is}
+use Rattle.repair.proofs.MendingLaw.{apart-refused, apart-fine, mend-fine}
 use Rattle.paper.specs.Views.{seen}
 use Rattle.repair.proofs.mending.mend_parsed.Statement.{statement}
 use Rattle.repair.proofs.mending.mend_parsed.Tie as tie

@@ -9,7 +9,7 @@ use native.Mathlib.Omega.{arith}
 use borrow.Author.Tests.{lt-ltb, le-ltb}
 use lib.Dec.{ltb}
 use lib.ListN.{length, drop, drop-of-length-le}
-use Rattle.scan.proofs.TotalLaw.{length-seen}
+use Rattle.view.proofs.SeenLaw.{length-seen}
 use Rattle.paper.specs.Refusals.{overlappingRegions, Verdict, fine, refuse, _then_, refuseIf}
 use Rattle.paper.specs.Layout.{Entry, headerLength}
 use Rattle.paper.specs.Views.{nth, seen, regionAt}
@@ -22,7 +22,7 @@ use Rattle.view.specs.declared.regions.RegionAt.{RegionAt}
 use Rattle.view.specs.declared.regions.RegionAt.the-variants as is
 use Rattle.view.proofs.AnswersLaw.{found-some, found-none}
 use Rattle.laws.proofs.VerdictLaw.{and-false, or-none}
-use Rattle.repair.specs.Earlier.{before, earlierOf, highest}
+use Rattle.overlap.specs.Earlier.{before, earlierOf, highest}
 
 -- ---- two regions
 
