@@ -14,8 +14,8 @@ ghost use Rattle.overlap.specs.Earlier.{earlierOf, highest, lastWord, to
 use error::Check;
 use error::Refusal;
 use layout::COPIES;
-use layout::DIRECTORY_OFFSET;
 use layout::DIR_ENTRY_BYTES;
+use layout::DIRECTORY_OFFSET;
 use layout::Region;
 use view::Header;
 use view::RegionAt;
