@@ -30,7 +30,7 @@ use Rattle.paper.specs.Scan.{Report, scan}
 use Rattle.paper.specs.Scrub.{scrub}
 use Rattle.paper.specs.Writer.{planes, image, write}
 use Rattle.paper.specs.Writer as plan
-use Rattle.paper.specs.Mend.{LaidApart, FirstMisplaced, MendRule, mendBytes, changed, wholeOf, mended, refusedMend, mend}
+use Rattle.paper.specs.Mend.{LaidApart, FirstMisplaced, MendRule, mendBytes, changed, whole, mended, refusedMend, mend}
 use Rattle.paper.specs.Programs.{storedLine, lines, scrubImage, scrubText}
 use Rattle.paper.proofs.FigureTable as figure
 use Rattle.paper.proofs.LayoutLaw as layout
@@ -129,10 +129,10 @@ pub mend-is-the-rule : (x y : List ℕ) (r : Option Report) (k : ℕ) (t : Bool)
     × ((z : List ℕ) → MendRule x z → z ≡ y)
     × (scrub x .report ≡ r)
     × (changed x y ≡ k)
-    × (wholeOf r ≡ t)
+    × (whole x ≡ t)
 mend-is-the-rule x y r k t b h =
     let m = mends x y r k t b h in
-    (m .rule, λ z q. one-result x z y q (m .rule), scrub-same x y r k t b h .0, m .stored, m .whole)
+    (m .rule, λ z q. one-result x z y q (m .rule), scrub-same x y r k t b h .0, m .stored, m .isWhole)
 
 -- It refuses as parse does; then with 12 exactly if the image isn't laid apart, and names the first non-empty entry that starts inside the header
 -- or shares a byte with an earlier non-empty entry; it mends every other image.
@@ -141,7 +141,7 @@ pub mend-refuses-exactly : (x : List ℕ)
     × ((i : ℕ) → mend x ≡ refusedMend overlappingRegions i
     → (parse x ≡ accepted (headerOf x)) × (LaidApart (count x) (directory x) → ⊥) × FirstMisplaced (count x) (directory x) i)
     × (parse x ≡ accepted (headerOf x) → (LaidApart (count x) (directory x) → ⊥) → (i : ℕ) × (mend x ≡ refusedMend overlappingRegions i))
-    × (parse x ≡ accepted (headerOf x) → LaidApart (count x) (directory x) → mend x ≡ mended (mendBytes x) (scan x) (changed x (mendBytes x)) (wholeOf (scan x)))
+    × (parse x ≡ accepted (headerOf x) → LaidApart (count x) (directory x) → mend x ≡ mended (mendBytes x) (scan x) (changed x (mendBytes x)) (whole x))
 mend-refuses-exactly x = (as-parse x, only-overlap x, overlap-always x, else-mends x)
 
 -- "Writer equals the format's rules": its definition is the image as the rules lay it out, and what it makes reads back. It parses; each row's region
@@ -220,8 +220,8 @@ fresh-check = fresh
 pub whole-means-whole : (rs : List plan.Row) (payload : List ℕ) (room : ℕ) (w d : List ℕ)
     → write rs payload room ≡ image w → Bytes payload → Damaged 2 w d
     → (y : List ℕ)
-    × (mend d ≡ mended y (scan d) (changed d y) (wholeOf (scan d)))
-    × (wholeOf (scan d) ≡ true → y ≡ w)
+    × (mend d ≡ mended y (scan d) (changed d y) (whole d))
+    × (whole d ≡ true → y ≡ w)
     × ((q c : ℕ) → Protected w q c → Lost d q c → (wordAt y q ≡ wordAt d q) × (at y c ≡ at d c))
     × ((p : ℕ) → ((q c : ℕ) → Protected w q c → Lost d q c → (q ≡ p / 8 → ⊥) × (c ≡ p → ⊥)) → at y p ≡ at w p)
 whole-means-whole rs payload room w d written bytes damage = whole-or-kept rs payload room w written bytes d damage

@@ -14,7 +14,7 @@ use Rattle.paper.specs.Writer.{planes}
 use Rattle.paper.specs.Programs.{storedLine, lines}
 use Rattle.lines.specs.declared.Printed.{Printed}
 use lib.Seq.{sets}
-use Rattle.paper.specs.Mend.{LaidApart, FirstMisplaced, MendRule, changed, wholeOf, mended, mend}
+use Rattle.paper.specs.Mend.{LaidApart, FirstMisplaced, MendRule, changed, whole, mended, mend}
 use Rattle.error.specs.declared.Refusal.the-variants.{OverlappingRegions}
 use Rattle.repair.proofs.OneAnswer.{one-mend}
 use Rattle.scan.specs.Answers.{asScan}
@@ -61,15 +61,15 @@ module _ (rows : List Row) (payload out : List ℕ) (n : ℕ) (after : List ℕ)
 
   -- With up to two bits wrong in each word: whole means the writer's bytes, and a word that is lost is as given.
   pub whole-means-whole : (d : List ℕ) → Damaged 2 (take n after) d → (r : MendResult) (y : List ℕ) → MendsTo d r y
-      → (asMended r y ≡ mended y (scan d) (changed d y) (wholeOf (scan d)))
-      × (wholeOf (scan d) ≡ true → y ≡ take n after)
+      → (asMended r y ≡ mended y (scan d) (changed d y) (whole d))
+      × (whole d ≡ true → y ≡ take n after)
       × ((q c : ℕ) → Protected (take n after) q c → Lost d q c → (wordAt y q ≡ wordAt d q) × (at y c ≡ at d c))
       × ((p : ℕ) → ((q c : ℕ) → Protected (take n after) q c → Lost d q c → (q ≡ p / 8 → ⊥) × (c ≡ p → ⊥)) → at y p ≡ at (take n after) p)
   whole-means-whole d damage r y mends =
       let o = demands.whole-means-whole (asPlan rows) payload (length out) (take n after) d (run.written rows payload out n after wrote) bytes damage in
       let m = run.mends-to d r y _ mends (o .1) in
       let e = m .0 in (
-        m .1 ∙ ap (λ (z : List ℕ). mended z (scan d) (changed d z) (wholeOf (scan d))) (sym e),
+        m .1 ∙ ap (λ (z : List ℕ). mended z (scan d) (changed d z) (whole d)) (sym e),
         λ t. e ∙ o .2 t,
         λ q c p l. (ap (λ (z : List ℕ). wordAt z q) e ∙ o .3 q c p l .0, ap (λ (z : List ℕ). at z c) e ∙ o .3 q c p l .1),
         λ p f. ap (λ (z : List ℕ). at z p) e ∙ o .4 p f,
@@ -104,7 +104,7 @@ module _ (x : List ℕ) (bytes : Bytes x) (m : answer.Mending) (y : List ℕ) (m
       × ((z : List ℕ) → MendRule x z → z ≡ y)
       × (scrub x .report ≡ asScan (m .report))
       × (changed x y ≡ m .stored)
-      × (wholeOf (asScan (m .report)) ≡ m .whole)
+      × (whole x ≡ m .whole)
   mend-is-the-rule = demands.mend-is-the-rule x y (asScan (m .report)) (m .stored) (m .whole) bytes (run.mended x m y mends)
 
   -- A byte that changed was outvoted, or the parity says that it holds the one flipped bit of its word.

@@ -17,7 +17,7 @@ use Rattle.paper.specs.Views.{tableSpan, tableVerdict, bytesSpan, Span, 
 use Rattle.paper.specs.Parity.{columns, find, isOdd, classOf, checkOf, syndrome, decode, flipWord}
 use Rattle.paper.specs.Scan.{planeOf, isProtected, visitOf, visitsOver, visits, pairsFrom, wordsOf, examinedIn, examined, total, report, classAt, classesAt, scanOf, scan}
 use Rattle.paper.specs.Scrub.{scrub, scrubFrom, scrubRegion, scrubVisits, scrubWords, scrubWord, Scrubbed}
-use Rattle.paper.specs.Mend.{meets, meetsAny, inHeader, apartVerdict, mendVerdict, fixAt, fixAll, mendBytes, changed, mend, MendAnswer, refusedMend, mended}
+use Rattle.paper.specs.Mend.{meets, meetsAny, inHeader, apartVerdict, mendVerdict, fixAt, fixAll, mendBytes, changesFrom, changes, changed, mend, MendAnswer, refusedMend, mended}
 use Rattle.paper.specs.Programs.{text, digits, decimal, field, tooLong, tooLongLine, refusedLine, regionsLine, eccLine, storedLine, lines, reportText, scrubImage, scrubLine, scrubText}
 use Rattle.paper.specs.Writer.{Row, rowEntries, planeEntry, planeEntries, rowWords, planesWords, planes, regions, planDirectory, entryBytes, entriesBytes, prologueStart, prologueBytes, checks, planeBytes, planesBytes, planImage, kindAmong, rowsVerdict, imageLength, planVerdict, write, image, refusedPlan}
 
@@ -28,7 +28,7 @@ unfolding parse parseVerdict headerVerdict prologueVerdict entriesVerdict among 
 parsing x = parse x
 
 mending : List ℕ → MendAnswer
-unfolding parsing mend mendVerdict mendBytes header apartVerdict meets meetsAny inHeader examined visits visitsOver visitOf isProtected planeOf firstThat examinedIn wordsOf pairsFrom fixAll fixAt classAt decode syndrome checkOf columns find isOdd ones classOf syn flipWord le scan scanOf report classesAt total changed
+unfolding parsing mend mendVerdict mendBytes header apartVerdict meets meetsAny inHeader examined visits visitsOver visitOf isProtected planeOf firstThat examinedIn wordsOf pairsFrom fixAll fixAt classAt decode syndrome checkOf columns find isOdd ones classOf syn flipWord le scan scanOf report classesAt total changed changes changesFrom
 mending x = mend x
 
 scrubbing : List ℕ → Scrubbed

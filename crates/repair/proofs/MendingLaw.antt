@@ -210,6 +210,6 @@ module _ (x : List ℕ) (p : parseVerdict x ≡ fine) where
   unfolding mendVerdict
   apart-fine e = rw (p, e)
 
-pub mend-fine : (x : List ℕ) → mendVerdict x ≡ fine → mend x ≡ paper.mended (mendBytes x) (scan x) (changed x (mendBytes x)) (paper.wholeOf (scan x))
+pub mend-fine : (x : List ℕ) → mendVerdict x ≡ fine → mend x ≡ paper.mended (mendBytes x) (scan x) (changed x (mendBytes x)) (paper.noneUncorrectable (scan x))
 unfolding mend
 mend-fine x v = rw v

@@ -180,7 +180,7 @@ fn mend_words(bytes: &mut [u8], header: Header) -> Counts
 
 // Nothing is whole without a report.
 fn is_whole(report: Scan) -> bool
-    ensures { λ r. ⌜ r ≡ paper.wholeOf (asScan report) ⌝ }
+    ensures { λ r. ⌜ r ≡ paper.noneUncorrectable (asScan report) ⌝ }
 {
     match report {
         Scan::Report(counts) => counts.uncorrectable == 0,
