@@ -53,9 +53,9 @@ module _ (rs : List Row) (payload : List ℕ) (room : ℕ) (w : List ℕ) (h : w
       ∙ subst (λ (x : List ℕ). anyOf (visits x) ≡ ltb 0 (planes rs)) (r .is) (any-back rs payload (r .plan))
 
   -- whole, if a row is flagged 2
-  whole : (d : List ℕ) → Damaged 1 w d → whole d ≡ ltb 0 (planes rs)
+  says-whole : (d : List ℕ) → Damaged 1 w d → whole d ≡ ltb 0 (planes rs)
   unfolding report
-  whole d a =
+  says-whole d a =
       let z : total isLost (classesAt d (examined d)) ≡ 0 =
       total-zero isLost d (examined d) (λ q c m. none-lost w d written-order a q c (subst (Among q c) (damaged-examined 1 w d written-order a) m)) in
       rw (scan-all d, visited d a) (go (ltb 0 (planes rs)) z)
@@ -68,7 +68,7 @@ module _ (rs : List Row) (payload : List ℕ) (room : ℕ) (w : List ℕ) (h : w
   restored d a =
       accepts 1 d a
       ∙ ap₂ (λ (y : List ℕ) (t : Bool). mended y (scan d) (changed d y) t)
-      (wholly 1 w d written-order a (mendBytes d) (rule 1 d a) (omega arith) (λ q c m i e. omega arith)) (whole d a)
+      (wholly 1 w d written-order a (mendBytes d) (rule 1 d a) (omega arith) (λ q c m i e. omega arith)) (says-whole d a)
 
   -- ---- whole means whole
 
