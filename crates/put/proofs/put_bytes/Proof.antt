@@ -20,7 +20,7 @@ add-out : tie.Need-add-out Inv-loop μ-loop
 add-out c = omega (arith, byte-room _ _ (c .before .before .loop .inv) (c .before .loop-test .taken))
 
 slice-write-out : tie.Need-slice-write-out Inv-loop μ-loop
-slice-write-out c = byte-room _ _ (c .before .before .loop .inv) (c .before .loop-test .taken)
+slice-write-out c = omega (arith, byte-room _ _ (c .before .before .loop .inv) (c .before .loop-test .taken))
 
 loop-again : tie.Need-loop-again Inv-loop μ-loop
 loop-again c = byte-put _ _ (c .before .before .loop .inv) _ (c .before .loop-test .taken) refl
