@@ -8,6 +8,7 @@ pub mod Fold
 pub mod Apart
 pub mod MendLaw
 pub mod MisplacedLaw
+pub mod PlacementLaw
 pub mod HeaderHalf
 pub mod StoredLaw
 pub mod ScrubLaw

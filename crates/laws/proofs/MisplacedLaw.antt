@@ -18,14 +18,14 @@ use Rattle.laws.proofs.EntriesLaw.{In, now, next}
 
 -- ---- two tests that hold
 
-both : (a b : Bool) → a && b ≡ true → (a ≡ true) × (b ≡ true)
+pub both : (a b : Bool) → a && b ≡ true → (a ≡ true) × (b ≡ true)
 both true true e = (refl, refl)
 both true false e = absurd (true-false (sym e))
 both false b e = absurd (true-false (sym e))
 
 -- ---- two entries share a byte exactly if `meets` says so
 
-shared-byte : (e f : Entry) → meets e f ≡ true → (b : ℕ) × InRegion e b × InRegion f b
+pub shared-byte : (e f : Entry) → meets e f ≡ true → (b : ℕ) × InRegion e b × InRegion f b
 unfolding meets
 shared-byte e f h =
     let n = both (ltb 0 (e .words) && ltb 0 (f .words)) _ h in
@@ -74,7 +74,7 @@ record Walk (all : List Entry) (i : ℕ) (earlier es : List Entry) : Type 0 wher
   stands : (f : Entry) → In f earlier → (j : ℕ) × (j < i) × (nth j all ≡ some f)
   rest : (k : ℕ) → nth (i + k) all ≡ nth k es
 
-one-entry : (e f : Entry) → _≡_ {A = Option Entry} (some e) (some f) → e ≡ f
+pub one-entry : (e f : Entry) → _≡_ {A = Option Entry} (some e) (some f) → e ≡ f
 one-entry e f h = cc
 
 walk-start : (all : List Entry) → Walk all 0 [] all

@@ -1,19 +1,17 @@
--- Regions laid apart: what one entry says of the verdict. Assumes nothing.
+-- Where regions lie: what one entry says of the placement. Assumes nothing.
 use mathlib.Core.Path.{_≡_, refl, sym, ap, ap₂, _∙_}
-use mathlib.Core.Bool.{Bool, true, false, _&&_, _||_}
-use mathlib.Core.List.{List, [], _∷_}
-use mathlib.Core.Option.{Option, some}
-use Prim.Native.Nat.{ℕ, suc, _+_, _*_, _≤_, _<_, max}
-use native.Mathlib.Nat.{le-max-left, le-max-right}
+use mathlib.Core.Bool.{Bool, true, false, _&&_, cond}
+use mathlib.Core.List.{List, [], _∷_, _++_}
+use mathlib.Core.Option.{Option, none, some}
+use Prim.Native.Nat.{ℕ, zero, suc, _+_, _*_, _≤_, _<_}
 use native.Mathlib.Omega.{arith}
 use borrow.Author.Tests.{lt-ltb, le-ltb}
 use lib.Dec.{ltb}
-use lib.ListN.{length, drop, drop-of-length-le}
-use Rattle.view.proofs.SeenLaw.{length-seen}
-use Rattle.paper.specs.Refusals.{overlappingRegions, Verdict, fine, refuse, _then_, refuseIf}
+use lib.ListN.{length, take, drop, drop-of-length-le}
 use Rattle.paper.specs.Layout.{Entry, headerLength}
 use Rattle.paper.specs.Views.{nth, seen, regionAt}
-use Rattle.paper.specs.Mend.{meets, meetsAny, inHeader, apartVerdict}
+use Rattle.paper.specs.Parse.{Header}
+use Rattle.paper.specs.Mend.{meets, meetsFrom, inHeader, Placement, placedApart, overHeader, overRegion, placementAs, placementFrom}
 use Rattle.layout.specs.declared.Region.{Region}
 use Rattle.layout.specs.Regions.{asEntry, regionOf}
 use Rattle.paper.proofs.WalkLaw.{nth-gone, nth-there}
@@ -21,8 +19,11 @@ use Rattle.view.specs.Answers.{foundAs}
 use Rattle.view.specs.declared.regions.RegionAt.{RegionAt}
 use Rattle.view.specs.declared.regions.RegionAt.the-variants as is
 use Rattle.view.proofs.AnswersLaw.{found-some, found-none}
-use Rattle.laws.proofs.VerdictLaw.{and-false, or-none}
-use Rattle.overlap.specs.Earlier.{before, earlierOf, highest}
+use Rattle.view.proofs.SeenLaw.{length-seen}
+use Rattle.laws.proofs.VerdictLaw.{and-false}
+use Rattle.overlap.specs.declared.Overlap.{Overlap}
+use Rattle.overlap.specs.declared.Overlap.the-variants as on
+use Rattle.overlap.specs.Answers.{overlapAs}
 
 -- ---- two regions
 
@@ -43,87 +44,118 @@ module _ (e f : Entry) where
   unfolding meets
   meets-else a b c = rw (lt-ltb 0 (e .words) a, lt-ltb 0 (f .words) b, lt-ltb (e .offset) (f .offset + f .words) c)
 
--- ---- an entry that has no bytes, or starts past all of them
+-- ---- an entry that has no bytes, and one against the header
 
-pub empty-none : (e : Entry) (es : List Entry) → e .words ≡ 0 → meetsAny e es ≡ false
-unfolding meetsAny
-empty-none e [] h = refl
-empty-none e (f ∷ es) h = or-none (meets e f) (meetsAny e es) (empty-left e f h) (empty-none e es h)
+empty-none : (j : ℕ) (e : Entry) (es : List Entry) → e .words ≡ 0 → meetsFrom j e es ≡ none
+unfolding meetsFrom
+empty-none j e [] h = refl
+empty-none j e (f ∷ es) h = rw (empty-left e f h) (empty-none (suc j) e es h)
 
-pub empty-outside : (n : ℕ) (e : Entry) → e .words ≡ 0 → inHeader n e ≡ false
+empty-outside : (n : ℕ) (e : Entry) → e .words ≡ 0 → inHeader n e ≡ false
 unfolding inHeader
 empty-outside n e h = rw (le-ltb 0 (e .words) (omega arith))
 
-pub past-none : (e : Entry) (es : List Entry) → highest es ≤ e .offset → meetsAny e es ≡ false
-unfolding meetsAny highest
-past-none e [] h = refl
-past-none e (f ∷ es) h =
-    or-none (meets e f) (meetsAny e es)
-    (starts-past e f (omega (arith, le-max-left (f .offset + f .words) (highest es))))
-    (past-none e es (omega (arith, le-max-right (f .offset + f .words) (highest es))))
-
-pub inside : (n : ℕ) (e : Entry) → 0 < e .words → 8 * e .offset < headerLength n → inHeader n e ≡ true
+inside : (n : ℕ) (e : Entry) → 0 < e .words → 8 * e .offset < headerLength n → inHeader n e ≡ true
 unfolding inHeader
 inside n e a b = rw (lt-ltb 0 (e .words) a, lt-ltb (8 * e .offset) (headerLength n) b)
 
-pub outside : (n : ℕ) (e : Entry) → headerLength n ≤ 8 * e .offset → inHeader n e ≡ false
+outside : (n : ℕ) (e : Entry) → headerLength n ≤ 8 * e .offset → inHeader n e ≡ false
 unfolding inHeader
 outside n e h = rw (le-ltb (8 * e .offset) (headerLength n) h) (and-false (ltb 0 (e .words)) false refl)
 
--- ---- the verdict, entry by entry
+-- what it lies on, of those before it
+module _ (n : ℕ) (e : Entry) (es : List Entry) where
+  pub lies-empty : e .words ≡ 0 → on.Nothing ≡ overlapAs (inHeader n e) (meetsFrom 0 e es)
+  lies-empty h = rw (empty-outside n e h, empty-none 0 e es h)
+
+  pub lies-inside : 0 < e .words → 8 * e .offset < headerLength n → on.Header ≡ overlapAs (inHeader n e) (meetsFrom 0 e es)
+  lies-inside a b = rw (inside n e a b)
+
+  pub lies-behind : (o : Option ℕ) → headerLength n ≤ 8 * e .offset → o ≡ meetsFrom 0 e es → overlapAs false o ≡ overlapAs (inHeader n e) (meetsFrom 0 e es)
+  lies-behind o h g = ap₂ overlapAs (sym (outside n e h)) g
+
+-- ---- the placement, entry by entry
 
 -- what is left to check at entry i
-unfoldable pub checksFrom : ℕ → List Entry → ℕ → Verdict
-checksFrom n all i = apartVerdict n i (earlierOf all i) (drop i all)
+unfoldable pub leftFrom : Header → List Entry → ℕ → Placement
+leftFrom h all i = placementFrom h i (take i all) (drop i all)
 
-pub checks-start : (n : ℕ) (all : List Entry) → checksFrom n all 0 ≡ apartVerdict n 0 [] all
-unfolding checksFrom earlierOf
-checks-start n all = refl
+pub left-start : (h : Header) (all : List Entry) → leftFrom h all 0 ≡ placementFrom h 0 [] all
+unfolding leftFrom
+left-start h all = refl
 
-module _ (n : ℕ) (x : List ℕ) (i : ℕ) (r : RegionAt) (f : r ≡ foundAs (regionAt n x i)) where
-  pub checks-gone : r ≡ is.Nothing → checksFrom n (seen n x) i ≡ fine
-  unfolding checksFrom apartVerdict regionAt
-  checks-gone g = ap (apartVerdict n i (earlierOf (seen n x) i)) (nth-gone (seen n x) i (found-none (nth i (seen n x)) (sym g ∙ f)))
+take-next : (es : List Entry) (i : ℕ) (e : Entry) → nth i es ≡ some e → take i es ++ (e ∷ []) ≡ take (suc i) es
+unfolding nth
+take-next [] i e h = cc
+take-next (f ∷ es) zero e h = cc
+take-next (f ∷ es) (suc i) e h = ap (λ (l : List Entry). f ∷ l) (take-next es i e h)
 
-  module _ (p : Region) (g : r ≡ is.Found p) (t : Bool) (h : t ≡ inHeader n (asEntry p) || meetsAny (asEntry p) (earlierOf (seen n x) i)) where
-    entry : (e : Entry) × (nth i (seen n x) ≡ some e) × (p ≡ regionOf e)
+same-from : (j : ℕ) (e : Entry) (es : List Entry) → meetsFrom j (asEntry (regionOf e)) es ≡ meetsFrom j e es
+unfolding meetsFrom meets
+same-from j e [] = refl
+same-from j e (k ∷ es) = ap (cond (meets e k) (some j)) (same-from (suc j) e es)
+
+on-header : (t : Bool) (o : Option ℕ) (i : ℕ) (p : Placement) → on.Header ≡ overlapAs t o → placementAs t o i p ≡ overHeader i
+on-header true o i p e = refl
+on-header false (some j) i p e = cc
+on-header false none i p e = cc
+
+on-region : (t : Bool) (o : Option ℕ) (i j : ℕ) (p : Placement) → on.Region j ≡ overlapAs t o → placementAs t o i p ≡ overRegion i j
+on-region true o i j p e = cc
+on-region false (some k) i j p e = cc
+on-region false none i j p e = cc
+
+on-nothing : (t : Bool) (o : Option ℕ) (i : ℕ) (p : Placement) → on.Nothing ≡ overlapAs t o → placementAs t o i p ≡ p
+on-nothing true o i p e = cc
+on-nothing false (some j) i p e = cc
+on-nothing false none i p e = refl
+
+-- at entry i of an image with a header h: r is what is found there
+module _ (h : Header) (x : List ℕ) (i : ℕ) (r : RegionAt) (f : r ≡ foundAs (regionAt (h .regions) x i)) where
+  pub left-gone : r ≡ is.Nothing → leftFrom h (seen (h .regions) x) i ≡ placedApart h
+  unfolding leftFrom placementFrom regionAt
+  left-gone g = ap (placementFrom h i (take i (seen (h .regions) x))) (nth-gone (seen (h .regions) x) i (found-none (nth i (seen (h .regions) x)) (sym g ∙ f)))
+
+  module _ (p : Region) (g : r ≡ is.Found p) (o : Overlap) (l : o ≡ overlapAs (inHeader (h .regions) (asEntry p)) (meetsFrom 0 (asEntry p) (take i (seen (h .regions) x)))) where
+    entry : (e : Entry) × (nth i (seen (h .regions) x) ≡ some e) × (p ≡ regionOf e)
     unfolding regionAt
-    entry = found-some (nth i (seen n x)) p (sym g ∙ f)
+    entry = found-some (nth i (seen (h .regions) x)) p (sym g ∙ f)
 
-    same-any : (e : Entry) (es : List Entry) → meetsAny (asEntry (regionOf e)) es ≡ meetsAny e es
-    unfolding meetsAny meets
-    same-any e [] = refl
-    same-any e (k ∷ es) = ap (λ (u : Bool). meets e k || u) (same-any e es)
+    abbrev in-header : Bool
+    in-header = inHeader (h .regions) (entry .0)
 
-    said : t ≡ inHeader n (entry .0) || meetsAny (entry .0) (earlierOf (seen n x) i)
-    unfolding inHeader
-    said =
-        h ∙ ap (λ (q : Region). inHeader n (asEntry q) || meetsAny (asEntry q) (earlierOf (seen n x) i)) (entry .2)
-        ∙ ap (λ (u : Bool). inHeader n (entry .0) || u) (same-any (entry .0) (earlierOf (seen n x) i))
+    abbrev met : Option ℕ
+    met = meetsFrom 0 (entry .0) (take i (seen (h .regions) x))
 
-    opened : checksFrom n (seen n x) i ≡ refuseIf t overlappingRegions i then checksFrom n (seen n x) (suc i)
-    unfolding checksFrom apartVerdict earlierOf
+    abbrev behind : Placement
+    behind = leftFrom h (seen (h .regions) x) (suc i)
+
+    opened : leftFrom h (seen (h .regions) x) i ≡ placementAs in-header met i behind
+    unfolding leftFrom placementFrom
     opened =
-        ap (apartVerdict n i (earlierOf (seen n x) i)) (nth-there (seen n x) i (entry .0) (entry .1))
-        ∙ ap₂ (λ (u : Bool) (es : List Entry). refuseIf u overlappingRegions i then apartVerdict n (suc i) es (drop (suc i) (seen n x)))
-        (sym said) (ap (λ (o : Option Entry). before o (earlierOf (seen n x) i)) (sym (entry .1)))
+        let es = seen (h .regions) x in
+        ap (placementFrom h i (take i es)) (nth-there es i (entry .0) (entry .1))
+        ∙ ap (λ (k : List Entry). placementAs in-header met i (placementFrom h (suc i) k (drop (suc i) es)))
+        (take-next es i (entry .0) (entry .1))
 
-    pub checks-refuse : t ≡ true → checksFrom n (seen n x) i ≡ refuse overlappingRegions i
-    checks-refuse k = opened ∙ ap (λ (u : Bool). refuseIf u overlappingRegions i then checksFrom n (seen n x) (suc i)) k
+    lies : o ≡ overlapAs in-header met
+    unfolding inHeader
+    lies =
+        let es = seen (h .regions) x in
+        l ∙ ap (λ (q : Region). overlapAs (inHeader (h .regions) (asEntry q)) (meetsFrom 0 (asEntry q) (take i es))) (entry .2)
+        ∙ ap (overlapAs in-header) (same-from 0 (entry .0) (take i es))
 
-    pub checks-next : t ≡ false → checksFrom n (seen n x) i ≡ checksFrom n (seen n x) (suc i)
-    checks-next k = opened ∙ ap (λ (u : Bool). refuseIf u overlappingRegions i then checksFrom n (seen n x) (suc i)) k
+    pub left-header : o ≡ on.Header → leftFrom h (seen (h .regions) x) i ≡ overHeader i
+    left-header k = opened ∙ on-header in-header met i behind (sym k ∙ lies)
 
-    pub highest-next : highest (earlierOf (seen n x) (suc i)) ≡ max (p .«word_offset» + p .«word_length») (highest (earlierOf (seen n x) i))
-    unfolding earlierOf highest
-    highest-next =
-        ap (λ (o : Option Entry). highest (before o (earlierOf (seen n x) i))) (entry .1)
-        ∙ ap (λ (q : Region). max (q .«word_offset» + q .«word_length») (highest (earlierOf (seen n x) i))) (sym (entry .2))
+    pub left-region : (j : ℕ) → o ≡ on.Region j → leftFrom h (seen (h .regions) x) i ≡ overRegion i j
+    left-region j k = opened ∙ on-region in-header met i j behind (sym k ∙ lies)
 
-pub checks-done : (n : ℕ) (x : List ℕ) (i : ℕ) → n ≤ i → checksFrom n (seen n x) i ≡ fine
-unfolding checksFrom apartVerdict
-checks-done n x i h = ap (apartVerdict n i (earlierOf (seen n x) i)) (let l : length (seen n x) ≤ i = omega (arith, length-seen n x) in drop-of-length-le (seen n x) l)
+    pub left-next : o ≡ on.Nothing → leftFrom h (seen (h .regions) x) i ≡ behind
+    left-next k = opened ∙ on-nothing in-header met i behind (sym k ∙ lies)
 
-pub none-yet : (all : List Entry) → 0 ≡ highest (earlierOf all 0)
-unfolding earlierOf highest
-none-yet all = refl
+pub left-done : (h : Header) (x : List ℕ) (i : ℕ) → h .regions ≤ i → leftFrom h (seen (h .regions) x) i ≡ placedApart h
+unfolding leftFrom placementFrom
+left-done h x i l =
+    let s : length (seen (h .regions) x) ≤ i = omega (arith, length-seen (h .regions) x) in
+    ap (placementFrom h i (take i (seen (h .regions) x))) (drop-of-length-le (seen (h .regions) x) s)

@@ -1,2 +1,4 @@
 pub mod ApartLaw
 pub mod SpanLaw
+pub mod AnswersLaw
+pub mod OneAnswer

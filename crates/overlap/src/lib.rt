@@ -1,31 +1,161 @@
-// Whether the regions that hold bytes keep off the header and off each other. (FORMAT 10)
+// Where regions lie: parse, then whether those that hold bytes keep off the header and off each other. (FORMAT 10)
 ghost use mathlib.Core.Path.{_≡_};
-ghost use mathlib.Core.Bool.{_&&_, _||_, cond};
+ghost use mathlib.Core.Bool.{false, _&&_, cond};
 ghost use mathlib.Core.List.{List, []};
-ghost use Prim.Native.Nat.{ℕ, _+_, _^_, _<_, _≤_, max};
+ghost use Prim.Native.Nat.{_+_, _^_, _<_, _≤_, max};
 ghost use lib.Dec.{leb};
-ghost use lib.ListN.{length};
+ghost use lib.ListN.{length, take};
 ghost use Rattle.paper.specs.Layout.{Entry, headerLength};
 ghost use Rattle.paper.specs.Views.{seen};
 ghost use Rattle.paper.specs.Mend as paper;
+ghost use Rattle.laws.specs.Placed.{isSome};
 ghost use Rattle.layout.specs.Regions.{asEntry};
-ghost use Rattle.error.specs.Refused.{asCheck};
-ghost use Rattle.overlap.specs.Earlier.{earlierOf, highest, lastWord, touched, Spans};
-use error::Check;
+ghost use Rattle.view.specs.Answers.{asHeader};
+ghost use Rattle.overlap.specs.Answers.{asPlacement, overlapAs};
+ghost use Rattle.overlap.specs.Spans.{lastWord, overlapsFrom, Spans};
 use error::Refusal;
 use layout::COPIES;
 use layout::DIR_ENTRY_BYTES;
 use layout::DIRECTORY_OFFSET;
 use layout::Region;
 use view::Header;
+use view::ParseResult;
 use view::RegionAt;
+use view::parse;
 use view::region_at;
 
-// The word past a region.
-fn end_word(region: Region) -> usize
-    ensures { λ r. ⌜ (r ≡ region .«word_offset» + region .«word_length») × (region .«word_offset» < 2 ^ 32) ⌝ }
+// The header of an image whose regions lie apart; or the first misplaced entry, with what it lies on: the header, or else
+// the lowest earlier entry that it shares a byte with; or parse's refusal.
+pub enum Placement {
+    Apart(Header),
+    OnHeader { index: u16 },
+    OnRegion { index: u16, earlier: u16 },
+    Refused(Refusal),
+}
+
+// What one entry lies on.
+enum Overlap {
+    Nothing,
+    Header,
+    Region(u16),
+}
+
+pub fn check_placement(bytes: &[u8]) -> Placement
+    ensures { λ r. ⌜ asPlacement r ≡ paper.placement (now (bytes .entry)) ⌝ }
 {
-    (region.word_offset as usize) + (region.word_length as usize)
+    match parse(bytes) {
+        ParseResult::Refused(refusal) => Placement::Refused(refusal),
+        ParseResult::Parsed(header) => check_regions(bytes, header),
+    }
+}
+
+// The room for the spans is on this function's stack alone.
+fn check_regions(bytes: &[u8], header: Header) -> Placement
+    requires { ⌜ header .«region_count» ≤ 1024 ⌝ }
+    ensures { λ r. ⌜ asPlacement r ≡ paper.placementFrom (asHeader header) 0 [] (seen (header .«region_count») (now (bytes .entry))) ⌝ }
+{
+    let mut spans = [0u32; 2048];
+    check_spans(bytes, header, &mut spans)
+}
+
+// With room for the first and the last word of each entry, so that each is voted once.
+fn check_spans(bytes: &[u8], header: Header, spans: &mut [u32; 2048]) -> Placement
+    requires { ⌜ (header .«region_count» ≤ 1024) × (length (now spans) ≡ 2048) ⌝ }
+    ensures { λ r. ⌜ asPlacement r ≡ paper.placementFrom (asHeader header) 0 [] (seen (header .«region_count») (now (bytes .entry))) ⌝ }
+{
+    let n = header.region_count;
+    let mut high: usize = 0;
+    let mut i: u16 = 0;
+    while i < n {
+        let found = region_at(bytes, header, i);
+        let RegionAt::Found(region) = found else {
+            return Placement::Apart(header);
+        };
+        match overlap_at(spans, n, i, high, region) {
+            Overlap::Header => {
+                return Placement::OnHeader { index: i };
+            }
+            Overlap::Region(earlier) => {
+                return Placement::OnRegion { index: i, earlier };
+            }
+            Overlap::Nothing => {}
+        }
+        let j = i as usize;
+        spans[j] = region.word_offset;
+        spans[1024 + j] = last_word(region);
+        high = max(end_word(region), high);
+        i += 1;
+    }
+    Placement::Apart(header)
+}
+
+// What entry i of n lies on. The earlier ones end at word high at the latest, so an entry that starts there or later meets
+// none of them, and regions in ascending order are passed once.
+fn overlap_at(spans: &[u32; 2048], n: u16, i: u16, high: usize, region: Region) -> Overlap
+    requires { ⌜ i < 1024 ⌝ }
+    ensures { λ r. ⌜ ((es : List Entry) → Spans es i (now (spans .entry)) high
+        → r ≡ overlapAs (paper.inHeader n (asEntry region)) (paper.meetsFrom 0 (asEntry region) (take i es))) ⌝ }
+{
+    if region.word_length == 0 {
+        return Overlap::Nothing;
+    }
+    let offset = region.word_offset as usize;
+    if 8 * offset < header_length(n) {
+        return Overlap::Header;
+    }
+    if high <= offset {
+        return Overlap::Nothing;
+    }
+    let last = last_word(region);
+    if !overlaps_any(spans, i, region.word_offset, last) {
+        return Overlap::Nothing;
+    }
+    lowest_overlap(spans, i, region.word_offset, last)
+}
+
+// The words from first to last meet one of the first n entries: spans[j] is entry j's first word, spans[1024 + j] its
+// last. It does not stop at the first hit: a loop that always runs to its end is compiled to wide compares.
+fn overlaps_any(spans: &[u32; 2048], n: u16, first: u32, last: u32) -> bool
+    requires { ⌜ n ≤ 1024 ⌝ }
+    ensures { λ r. ⌜ r ≡ isSome (overlapsFrom first last (now (spans .entry)) 0 n) ⌝ }
+{
+    let end = n as usize;
+    let mut hits: u32 = 0;
+    let mut j: usize = 0;
+    while j < end {
+        hits += ranges_overlap(first, last, spans[j], spans[1024 + j]);
+        j += 1;
+    }
+    hits != 0
+}
+
+// The first of those entries.
+fn lowest_overlap(spans: &[u32; 2048], n: u16, first: u32, last: u32) -> Overlap
+    requires { ⌜ n ≤ 1024 ⌝ }
+    ensures { λ r. ⌜ r ≡ overlapAs false (overlapsFrom first last (now (spans .entry)) 0 n) ⌝ }
+{
+    let mut j: u16 = 0;
+    while j < n {
+        let k = j as usize;
+        if ranges_overlap(first, last, spans[k], spans[1024 + k]) != 0 {
+            return Overlap::Region(j);
+        }
+        j += 1;
+    }
+    Overlap::Nothing
+}
+
+// 1 if the words from first to last and those from start to end meet.
+fn ranges_overlap(first: u32, last: u32, start: u32, end: u32) -> u32
+    ensures { λ r. ⌜ (r ≡ cond (leb first end && leb start last) 1 0) × (r ≤ 1) ⌝ }
+{
+    if end < first {
+        return 0;
+    }
+    if last < start {
+        return 0;
+    }
+    1
 }
 
 // The last word of a region, 0 for an empty one. A last word of more than 32 bits becomes the largest of 32, which no
@@ -44,32 +174,11 @@ fn last_word(region: Region) -> u32
     }
 }
 
-// 1 if the words from first to last and those from start to end meet.
-fn ranges_overlap(first: u32, last: u32, start: u32, end: u32) -> u32
-    ensures { λ r. ⌜ (r ≡ cond (leb first end && leb start last) 1 0) × (r ≤ 1) ⌝ }
+// The word past a region.
+fn end_word(region: Region) -> usize
+    ensures { λ r. ⌜ (r ≡ region .«word_offset» + region .«word_length») × (region .«word_offset» < 2 ^ 32) ⌝ }
 {
-    if end < first {
-        return 0;
-    }
-    if last < start {
-        return 0;
-    }
-    1
-}
-
-// The words from first to last meet one of the first n entries: spans[j] is entry j's first word, spans[1024 + j] its
-// last. It does not stop at the first hit: a loop that always runs to its end is compiled to wide compares.
-fn overlaps_any(spans: &[u32; 2048], n: usize, first: u32, last: u32) -> bool
-    requires { ⌜ n ≤ 1024 ⌝ }
-    ensures { λ r. ⌜ r ≡ touched first last (now (spans .entry)) n ⌝ }
-{
-    let mut hits: u32 = 0;
-    let mut j: usize = 0;
-    while j < n {
-        hits += ranges_overlap(first, last, spans[j], spans[1024 + j]);
-        j += 1;
-    }
-    hits != 0
+    (region.word_offset as usize) + (region.word_length as usize)
 }
 
 // All copies of the prologue and of a directory of n entries.
@@ -79,61 +188,8 @@ fn header_length(n: u16) -> usize
     DIRECTORY_OFFSET + COPIES * DIR_ENTRY_BYTES * (n as usize)
 }
 
-// Entry i of n starts in the header or shares a byte with an earlier one. The earlier ones end at word high at the latest,
-// so an entry that starts there or later meets none of them, and regions in ascending order are passed once.
-fn is_misplaced(spans: &[u32; 2048], n: u16, i: u16, high: usize, region: Region) -> bool
-    requires { ⌜ i < 1024 ⌝ }
-    ensures { λ r. ⌜ ((es : List Entry) → Spans es i (now (spans .entry)) → high ≡ highest (earlierOf es i)
-        → r ≡ paper.inHeader n (asEntry region) || paper.meetsAny (asEntry region) (earlierOf es i)) ⌝ }
-{
-    if region.word_length == 0 {
-        return false;
-    }
-    let offset = region.word_offset as usize;
-    if 8 * offset < header_length(n) {
-        return true;
-    }
-    if high <= offset {
-        return false;
-    }
-    overlaps_any(spans, i as usize, region.word_offset, last_word(region))
-}
-
 fn max(a: usize, b: usize) -> usize
     ensures { λ r. ⌜ r ≡ max a b ⌝ }
 {
     if a < b { b } else { a }
-}
-
-// With room for the first and the last word of each entry, so that each is voted once.
-fn check_spans(bytes: &[u8], header: Header, spans: &mut [u32; 2048]) -> Check
-    requires { ⌜ (header .«region_count» ≤ 1024) × (length (now spans) ≡ 2048) ⌝ }
-    ensures { λ r. ⌜ asCheck r ≡ paper.apartVerdict (header .«region_count») 0 [] (seen (header .«region_count») (now (bytes .entry))) ⌝ }
-{
-    let n = header.region_count;
-    let mut high: usize = 0;
-    let mut i: u16 = 0;
-    while i < n {
-        let found = region_at(bytes, header, i);
-        let RegionAt::Found(region) = found else {
-            return Check::Fine;
-        };
-        if is_misplaced(spans, n, i, high, region) {
-            return Check::Refuse(Refusal::OverlappingRegions { index: i });
-        }
-        let j = i as usize;
-        spans[j] = region.word_offset;
-        spans[1024 + j] = last_word(region);
-        high = max(end_word(region), high);
-        i += 1;
-    }
-    Check::Fine
-}
-
-pub fn check_apart(bytes: &[u8], header: Header) -> Check
-    requires { ⌜ header .«region_count» ≤ 1024 ⌝ }
-    ensures { λ r. ⌜ asCheck r ≡ paper.apartVerdict (header .«region_count») 0 [] (seen (header .«region_count») (now (bytes .entry))) ⌝ }
-{
-    let mut spans = [0u32; 2048];
-    check_spans(bytes, header, &mut spans)
 }

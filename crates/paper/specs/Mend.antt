@@ -11,7 +11,7 @@ use Rattle.paper.specs.Bytes.{at, wordAt, le, Bytes}
 use Rattle.paper.specs.Refusals.{overlappingRegions, Verdict, fine, refuse, _then_, refuseIf}
 use Rattle.paper.specs.Layout.{count, headerLength, header, directory, Entry, start, end}
 use Rattle.paper.specs.Views.{nth}
-use Rattle.paper.specs.Parse.{parseVerdict}
+use Rattle.paper.specs.Parse.{parseVerdict, Header, Parsed, accepted, refused, parse}
 use Rattle.paper.specs.Parity.{Class, clean, flipped, beyond, flipWord, checkOf, fixedWord, fixedCheck}
 use Rattle.paper.specs.Scan.{Pair, Among, examined, classAt, Report, scan}
 
@@ -81,6 +81,47 @@ apartVerdict n i earlier (e ∷ es) =
 
 unfoldable pub mendVerdict : List ℕ → Verdict
 mendVerdict x = parseVerdict x then apartVerdict (count x) 0 [] (directory x)
+
+-- the same with what a misplaced entry lies on: the header, or else the lowest earlier entry that it shares a byte with
+
+-- the first of the entries, which count from j on, that shares a byte with e
+unfoldable pub meetsFrom : ℕ → Entry → List Entry → Option ℕ
+meetsFrom j e [] = none
+meetsFrom j e (f ∷ fs) = cond (meets e f) (some j) (meetsFrom (suc j) e fs)
+
+pub data Placement : Type 0 where
+  placedApart : Header → Placement
+  overHeader : ℕ → Placement
+  overRegion : ℕ → ℕ → Placement
+  refusedPlacement : ℕ → ℕ → Placement
+
+-- of entry i: whether it starts inside the header, the earlier entry that it meets, and what the entries behind it come to
+abbrev pub placementAs : Bool → Option ℕ → ℕ → Placement → Placement
+placementAs true o i p = overHeader i
+placementAs false (some j) i p = overRegion i j
+placementAs false none i p = p
+
+-- the earlier entries in the directory's order
+unfoldable pub placementFrom : Header → ℕ → List Entry → List Entry → Placement
+placementFrom h i earlier [] = placedApart h
+placementFrom h i earlier (e ∷ es) =
+    placementAs (inHeader (h .regions) e) (meetsFrom 0 e earlier) i
+    (placementFrom h (suc i) (earlier ++ (e ∷ [])) es)
+
+-- parse, then the first misplaced entry
+abbrev pub placementOf : Parsed → List Entry → Placement
+placementOf (accepted h) es = placementFrom h 0 [] es
+placementOf (refused n d) es = refusedPlacement n d
+
+unfoldable pub placement : List ℕ → Placement
+placement x = placementOf (parse x) (directory x)
+
+-- what it says, as a verdict (`placement-verdict` in the crate laws: it is mend's)
+abbrev pub placementVerdict : Placement → Verdict
+placementVerdict (placedApart h) = fine
+placementVerdict (overHeader i) = refuse overlappingRegions i
+placementVerdict (overRegion i j) = refuse overlappingRegions i
+placementVerdict (refusedPlacement n d) = refuse n d
 
 -- ---- the procedure: one examined word after the other (`mend-is-the-rule` there: it leaves what the rule says, and nothing else meets the rule)
 

@@ -15,7 +15,7 @@ use Rattle.paper.specs.Views.{nth, seen, regionAt}
 use Rattle.paper.specs.Scan.{Visit, visitsOver, visits, Pair, Among, pairsFrom, examinedIn, examined, total, classesAt, report, scanOf, scan, scanIn}
 use Rattle.paper.specs.Scrub.{visitAt}
 use Rattle.paper.specs.Mend as paper
-use Rattle.paper.specs.Mend.{apartVerdict, mendVerdict, fixAt, fixAll, mendBytes, changed, mend}
+use Rattle.paper.specs.Mend.{mendVerdict, fixAt, fixAll, mendBytes, changed, mend}
 use Rattle.paper.proofs.LayoutLaw.{length-directoryOf}
 use Rattle.paper.proofs.ScanLaw.{anyOf, any-append, examined-append, scan-all, visits-append, visits-to}
 use Rattle.view.proofs.SeenLaw.{seen-is}
@@ -197,18 +197,9 @@ module _ (x : List ℕ) (v : mendVerdict x ≡ fine) (b : Bytes x) where
 
 -- ---- the verdict
 
-pub mend-refused : (x : List ℕ) (n d : ℕ) → parseVerdict x ≡ refuse n d → mend x ≡ paper.refusedMend n d
-unfolding mend mendVerdict
-mend-refused x n d e = rw e
-
-module _ (x : List ℕ) (p : parseVerdict x ≡ fine) where
-  pub apart-refused : (n d : ℕ) → apartVerdict (count x) 0 [] (directory x) ≡ refuse n d → mend x ≡ paper.refusedMend n d
-  unfolding mend mendVerdict
-  apart-refused n d e = rw (p, e)
-
-  pub apart-fine : apartVerdict (count x) 0 [] (directory x) ≡ fine → mendVerdict x ≡ fine
-  unfolding mendVerdict
-  apart-fine e = rw (p, e)
+pub mend-refused : (x : List ℕ) (n d : ℕ) → mendVerdict x ≡ refuse n d → mend x ≡ paper.refusedMend n d
+unfolding mend
+mend-refused x n d v = rw v
 
 pub mend-fine : (x : List ℕ) → mendVerdict x ≡ fine → mend x ≡ paper.mended (mendBytes x) (scan x) (changed x (mendBytes x)) (paper.noneUncorrectable (scan x))
 unfolding mend

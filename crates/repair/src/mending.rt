@@ -7,7 +7,6 @@ ghost use lib.ListN.{length, set};
 ghost use Rattle.paper.specs.Bytes.{at};
 ghost use Rattle.paper.specs.Refusals.{fine};
 ghost use Rattle.paper.specs.Layout.{count, headerLength, scrubWanted};
-ghost use Rattle.paper.specs.Parse.{parseVerdict};
 ghost use Rattle.paper.specs.Scan.{pairsFrom, examinedIn};
 ghost use Rattle.paper.specs.Mend as paper;
 ghost use Rattle.paper.proofs.ScanLaw.{anyOf};
@@ -26,14 +25,12 @@ use super::words::fix_word;
 use ecc::CheckTable;
 use ecc::EMPTY_TABLE;
 use ecc::fill_check_table;
-use error::Check;
 use error::Refusal;
-use overlap::check_apart;
+use overlap::Placement;
+use overlap::check_placement;
 use scalar::maj3;
 use scan::Scan;
 use view::Header;
-use view::ParseResult;
-use view::parse;
 
 // What was found before anything was written, how many bytes changed, and whether no word is left uncorrectable.
 pub struct Mending {
@@ -204,26 +201,20 @@ fn mend_apart(bytes: &mut [u8], header: Header) -> Mending
     }
 }
 
-// Of an image that parses.
-fn mend_parsed(bytes: &mut [u8], header: Header) -> MendResult
-    requires { ⌜ (header .«region_count» ≡ count (now bytes)) × (parseVerdict (now bytes) ≡ fine) × (header .«prologue_disagreed» || header .«directory_disagreed» ≡ scrubWanted (now bytes)) ⌝ }
-    ensures is { λ r. ⌜ asMended r (now (bytes .exit)) ≡ paper.mend (now (bytes .entry)) ⌝ }
-    ensures leaves { λ r. ⌜ now (bytes .exit) ≡ leftBy (paper.mend (now (bytes .entry))) (now (bytes .entry)) ⌝ }
-{
-    match check_apart(bytes, header) {
-        Check::Refuse(refusal) => MendResult::Refused(refusal),
-        Check::Fine => MendResult::Mended(mend_apart(bytes, header)),
-    }
-}
-
 // Repairs what the header's votes and the parity decide, and refuses, with no byte written, where regions overlap.
 // The image has to be parsed afresh before it is loaded.
 pub fn mend(bytes: &mut [u8]) -> MendResult
     ensures is { λ r. ⌜ asMended r (now (bytes .exit)) ≡ paper.mend (now (bytes .entry)) ⌝ }
     ensures leaves { λ r. ⌜ now (bytes .exit) ≡ leftBy (paper.mend (now (bytes .entry))) (now (bytes .entry)) ⌝ }
 {
-    match parse(bytes) {
-        ParseResult::Refused(refusal) => MendResult::Refused(refusal),
-        ParseResult::Parsed(header) => mend_parsed(bytes, header),
+    match check_placement(bytes) {
+        Placement::Refused(refusal) => MendResult::Refused(refusal),
+        Placement::OnHeader { index } => {
+            MendResult::Refused(Refusal::OverlappingRegions { index })
+        }
+        Placement::OnRegion { index, earlier: _ } => {
+            MendResult::Refused(Refusal::OverlappingRegions { index })
+        }
+        Placement::Apart(header) => MendResult::Mended(mend_apart(bytes, header)),
     }
 }

@@ -1,0 +1,44 @@
+-- What a placement says of an image, in the words of the rule. (FORMAT 10)
+use mathlib.Core.Path.{_≡_}
+use mathlib.Core.Bool.{Bool, true, false}
+use mathlib.Core.List.{List}
+use mathlib.Core.Option.{Option, none, some}
+use Prim.Native.Nat.{ℕ, _≤_, _<_}
+use Rattle.paper.specs.Refusals.{fine}
+use Rattle.paper.specs.Layout.{count, headerLength, directory, Entry, start}
+use Rattle.paper.specs.Views.{nth}
+use Rattle.paper.specs.Parse.{accepted, refused, parse, parseVerdict}
+use Rattle.paper.specs.Mend.{InRegion, LaidApart, FirstMisplaced, Placement, placedApart, overHeader, overRegion, refusedPlacement}
+
+-- some entry was found
+abbrev pub isSome : Option ℕ → Bool
+isSome none = false
+isSome (some j) = true
+
+-- ---- of a directory es of n entries
+
+-- entry i is non-empty and starts inside the header
+pub record OnHeader (n : ℕ) (es : List Entry) (i : ℕ) : Type 0 where
+  pub entry : Entry
+  pub there : nth i es ≡ some entry
+  pub holds : 0 < entry .words
+  pub inside : start entry < headerLength n
+
+-- entry i does not, and shares a byte with entry j, which is earlier; with none below j it shares one
+pub record OnRegion (n : ℕ) (es : List Entry) (i j : ℕ) : Type 0 where
+  pub entry : Entry
+  pub other : Entry
+  pub there : nth i es ≡ some entry
+  pub stands : nth j es ≡ some other
+  pub behind : headerLength n ≤ start entry
+  pub earlier : j < i
+  pub shared : (b : ℕ) × InRegion entry b × InRegion other b
+  pub lowest : (k : ℕ) → k < j → (f : Entry) → nth k es ≡ some f → (b : ℕ) → InRegion entry b → InRegion f b → ⊥
+
+-- ---- of an image
+
+abbrev pub Told : List ℕ → Placement → Type 0
+Told x (placedApart h) = (parse x ≡ accepted h) × LaidApart (count x) (directory x)
+Told x (overHeader i) = (parseVerdict x ≡ fine) × FirstMisplaced (count x) (directory x) i × OnHeader (count x) (directory x) i
+Told x (overRegion i j) = (parseVerdict x ≡ fine) × FirstMisplaced (count x) (directory x) i × OnRegion (count x) (directory x) i j
+Told x (refusedPlacement n d) = parse x ≡ refused n d
