@@ -25,7 +25,7 @@ refused : (x : List ℕ) (r : Placement) → asPlacement r ≡ paper.placement x
     → (paper.refusedMend n d ≡ paper.mend x) × (x ≡ leftBy (paper.mend x) x)
 refused x r e n d v =
     let m = mend-refused x n d (placed-verdict x r e ∙ v) in
-    (sym m, ap (λ (q : paper.Mending). leftBy q x) (sym m))
+    (sym m, ap (λ (q : paper.MendAnswer). leftBy q x) (sym m))
 
 mend-apart-requires : tie.Need-mend-apart-requires
 mend-apart-requires c κs =
