@@ -1,6 +1,6 @@
 -- The paper's answers as the numbers that are handed to C. (FORMAT 2, 5, 7, 8, 10)
 use mathlib.Core.Bool.{Bool, _||_}
-use mathlib.Core.List.{List, [], _∷_}
+use mathlib.Core.List.{List, [], _∷_, _++_}
 use mathlib.Core.Option.{Option, none, some}
 use Prim.Native.Nat.{ℕ}
 use Rattle.bits.specs.Bit.{num}
@@ -32,8 +32,7 @@ scanNumbers (refused n d) s = d ∷ 0 ∷ 0 ∷ 0 ∷ []
 
 -- the same, what was stored, and whether the image is whole
 abbrev pub mendingNumbers : Option Report → ℕ → Bool → List ℕ
-mendingNumbers (some r) k w = 1 ∷ r .words ∷ r .corrected ∷ r .uncorrectable ∷ k ∷ num w ∷ []
-mendingNumbers none k w = 0 ∷ 0 ∷ 0 ∷ 0 ∷ k ∷ num w ∷ []
+mendingNumbers s k w = reportNumbers s ++ k ∷ num w ∷ []
 
 abbrev pub mendNumber : MendAnswer → ℕ
 mendNumber (mended y r k w) = 0

@@ -81,24 +81,15 @@ pub extern "C" fn kw_scrub(image: &mut [u8], answer: &mut [u64; 4]) -> u32
     0
 }
 
-// {1, words, corrected, uncorrectable, stored, whole}, the first four 0 for nothing.
+// Those of the report, then stored and whole.
 fn mending_numbers(m: Mending) -> [u64; 6]
     ensures { λ r. ⌜ r ≡ mendingNumbers (asScan (m .report)) (m .stored) (m .whole) ⌝ }
 {
     let stored = m.stored as u64;
     let whole = m.whole as u64;
     let report = m.report;
-    match report {
-        Scan::Report(r) => [
-            1,
-            r.words as u64,
-            r.corrected as u64,
-            r.uncorrectable as u64,
-            stored,
-            whole,
-        ],
-        Scan::Nothing => [0, 0, 0, 0, stored, whole],
-    }
+    let n = report_numbers(report);
+    [n[0], n[1], n[2], n[3], stored, whole]
 }
 
 // 0 and the report or nothing with what was stored and whether the image is whole, or a refusal's number and {detail, 0, 0, 0, 0, 0}.

@@ -27,9 +27,10 @@ use Rattle.laws.proofs.Fold.{AllApart, nil, cons, all-length, all-other, fixAll
 use Rattle.laws.proofs.Apart.{accepted, apart, past}
 use Rattle.laws.proofs.StoredLaw.{stored-count}
 use Rattle.repair.proofs.SettleLaw.{header-part}
-use Rattle.repair.proofs.MetLaw.{met-append, met-apart, tally-append}
-use Rattle.repair.specs.declared.counts.Counts.{Counts}
-use Rattle.repair.specs.Counting.{reportedBy, visitedBy, plus, tally, met, scanned}
+use Rattle.scan.specs.Tally.{Totals, noTotals, tallied, marked, withClasses, reportedBy}
+use Rattle.scan.proofs.TallyLaw.{tally-append}
+use Rattle.repair.proofs.MetLaw.{met-append, met-apart}
+use Rattle.repair.specs.Counting.{met, scanned}
 use Rattle.repair.specs.Runs.{visitsAt}
 
 -- ---- a run of words
@@ -69,15 +70,15 @@ unfoldable pub fixedTo : List ℕ → ℕ → List ℕ
 fixedTo x i = fixAll (examinedIn (firstVisits x i)) x
 
 -- what is counted by then
-unfoldable pub tallied : List ℕ → ℕ → Counts
-tallied x i = tally (anyOf (firstVisits x i)) (met x (examinedIn (firstVisits x i)))
+unfoldable pub talliedTo : List ℕ → ℕ → Totals
+talliedTo x i = tallied (anyOf (firstVisits x i)) (met x (examinedIn (firstVisits x i)))
 
 pub none-fixed : (x : List ℕ) → fixedTo x 0 ≡ x
 unfolding fixedTo fixAll visitsOver examinedIn
 none-fixed x = refl
 
-pub none-tallied : (x : List ℕ) → tallied x 0 ≡ record { any = false; words = 0; corrected = 0; uncorrectable = 0 }
-unfolding tallied met visitsOver examinedIn total
+pub none-tallied : (x : List ℕ) → talliedTo x 0 ≡ noTotals
+unfolding talliedTo report met visitsOver examinedIn total
 none-tallied x = refl
 
 module _ (x : List ℕ) (v : mendVerdict x ≡ fine) (b : Bytes x) where
@@ -143,21 +144,21 @@ module _ (x : List ℕ) (v : mendVerdict x ≡ fine) (b : Bytes x) where
       ∙ sym (ap (λ (ps : List Pair). fixAll ps x) (words-next i) ∙ fixAll-append (first i) (examinedIn (next-visit i)) x)
 
   -- and is counted as a scan of x counts it
-  pub tally-next : (i : ℕ) (y : List ℕ) (c : Counts) → y ≡ fixedTo x i → c ≡ tallied x i
-      → plus (visitedBy c (anyOf (visitsAt (count x) y i))) (met y (examinedIn (visitsAt (count x) y i))) ≡ tallied x (suc i)
-  unfolding tallied fixedTo first
+  pub tally-next : (i : ℕ) (y : List ℕ) (c : Totals) → y ≡ fixedTo x i → c ≡ talliedTo x i
+      → withClasses (marked c (anyOf (visitsAt (count x) y i))) (met y (examinedIn (visitsAt (count x) y i))) ≡ talliedTo x (suc i)
+  unfolding talliedTo fixedTo first
   tally-next i y c e f =
       let vs = next-visit i in
-      ap (λ (ws : List Visit). plus (visitedBy c (anyOf ws)) (met y (examinedIn ws))) (fixed-visit i y e)
-      ∙ ap₂ (λ (t : Counts) (z : List ℕ). plus (visitedBy t (anyOf vs)) (met z (examinedIn vs))) f e
+      ap (λ (ws : List Visit). withClasses (marked c (anyOf ws)) (met y (examinedIn ws))) (fixed-visit i y e)
+      ∙ ap₂ (λ (t : Totals) (z : List ℕ). withClasses (marked t (anyOf vs)) (met z (examinedIn vs))) f e
       ∙ tally-append (anyOf (firstVisits x i) || anyOf vs) (met x (first i)) (met (fixAll (first i) x) (examinedIn vs))
-      ∙ sym (ap₂ tally (ap anyOf (first-next i) ∙ any-append (firstVisits x i) vs) (ap (met x) (words-next i) ∙ met-append x (first i) (examinedIn vs)))
+      ∙ sym (ap₂ tallied (ap anyOf (first-next i) ∙ any-append (firstVisits x i) vs) (ap (met x) (words-next i) ∙ met-append x (first i) (examinedIn vs)))
 
-  pub tally-all : (i : ℕ) → count x ≤ i → tallied x i ≡ scanned x
-  unfolding tallied scanned examined
+  pub tally-all : (i : ℕ) → count x ≤ i → talliedTo x i ≡ scanned x
+  unfolding talliedTo scanned examined
   tally-all i h =
-      ap (λ (vs : List Visit). tally (anyOf vs) (met x (examinedIn vs))) (all-visits x i h)
-      ∙ ap (tally (anyOf (visits x))) (met-apart (length x) x b refl (apart x v))
+      ap (λ (vs : List Visit). tallied (anyOf vs) (met x (examinedIn vs))) (all-visits x i h)
+      ∙ ap (tallied (anyOf (visits x))) (met-apart (length x) x b refl (apart x v))
 
 pub all-fixed : (x : List ℕ) (i : ℕ) → count x ≤ i → fixedTo x i ≡ mendWords x
 unfolding fixedTo mendWords examined
@@ -186,12 +187,12 @@ module _ (x : List ℕ) (v : mendVerdict x ≡ fine) (b : Bytes x) where
   pub header-scanned : scanned (mendHeader x) ≡ scanned x
   unfolding scanned
   header-scanned =
-      ap₂ tally (ap anyOf (same-visits (mendHeader x) x (header-size x v b) (header-keeps x v b)))
+      ap₂ tallied (ap anyOf (same-visits (mendHeader x) x (header-size x v b) (header-keeps x v b)))
       (ap (classesAt (mendHeader x)) (header-examined x v b)
       ∙ classes-ext x (mendHeader x) (examined x) (λ q c m. (header-word x v b q c m, header-check x v b q c m)))
 
-  pub all-stored : (h w : ℕ) → h ≡ changed x (mendHeader x) → w ≡ scanned x .corrected → h + w ≡ changed x (mendBytes x)
-  unfolding scanned
+  pub all-stored : (h w : ℕ) → h ≡ changed x (mendHeader x) → w ≡ scanned x .report .corrected → h + w ≡ changed x (mendBytes x)
+  unfolding scanned report
   all-stored h w e f =
       ap₂ (λ (m n : ℕ). m + n) (e ∙ header-part x (accepted x v .long)) f ∙ sym (stored-count x v b)
 

@@ -12,36 +12,15 @@ use Rattle.paper.specs.Mend.{fixAt, fixAll}
 use Rattle.paper.proofs.ScanLaw.{total-append}
 use Rattle.laws.proofs.PairLaw.{classes-ext}
 use Rattle.laws.proofs.Fold.{Inside, AllApart, nil, cons, fix-bytes, fix-length, fix-free}
-use Rattle.repair.specs.declared.counts.Counts.{Counts}
-use Rattle.repair.specs.Counting.{counted, plus, tally, met}
-
-same-counts : {a b c a′ b′ c′ : ℕ} (v : Bool) → a ≡ a′ → b ≡ b′ → c ≡ c′
-    → _≡_ {A = Counts} (record { any = v; words = a; corrected = b; uncorrectable = c }) (record { any = v; words = a′; corrected = b′; uncorrectable = c′ })
-same-counts v e f g = cc
-
--- ---- one word, and none
-
-count-next : (t : Counts) (k : Class) (w : ℕ) (ks : List Class) → plus (counted t (outcomeAs k w)) ks ≡ plus t (k ∷ ks)
-unfolding total
-count-next t clean w ks = same-counts (t .any) (omega arith) (omega arith) (omega arith)
-count-next t (flipped i) w ks = same-counts (t .any) (omega arith) (omega arith) (omega arith)
-count-next t beyond w ks = same-counts (t .any) (omega arith) (omega arith) (omega arith)
-
-count-none : (t : Counts) → plus t [] ≡ t
-unfolding total
-count-none t = same-counts (t .any) (omega arith) (omega arith) (omega arith)
-
-pub counted-tally : (v : Bool) (ks : List Class) (k : Class) (w : ℕ) → counted (tally v ks) (outcomeAs k w) ≡ tally v (k ∷ ks)
-unfolding total
-counted-tally v ks clean w = same-counts v (omega arith) (omega arith) (omega arith)
-counted-tally v ks (flipped i) w = same-counts v (omega arith) (omega arith) (omega arith)
-counted-tally v ks beyond w = same-counts v (omega arith) (omega arith) (omega arith)
+use Rattle.scan.specs.Tally.{Totals, counted, withClasses}
+use Rattle.scan.proofs.TallyLaw.{count-next, count-none}
+use Rattle.repair.specs.Counting.{met}
 
 -- ---- a run of words
 
-module _ (n word check k : ℕ) (t : Counts) (x : List ℕ) where
+module _ (n word check k : ℕ) (t : Totals) (x : List ℕ) where
   pub met-next : (y : List ℕ) (o : Outcome) → k < n → o ≡ outcome (wordAt x (word + k)) (at x (check + k)) → y ≡ fixAt (record { word = word + k; check = check + k }) x
-      → plus (counted t o) (met y (pairsFrom (n - (k + 1)) (word + (k + 1)) (check + (k + 1)))) ≡ plus t (met x (pairsFrom (n - k) (word + k) (check + k)))
+      → withClasses (counted t o) (met y (pairsFrom (n - (k + 1)) (word + (k + 1)) (check + (k + 1)))) ≡ withClasses t (met x (pairsFrom (n - k) (word + k) (check + k)))
   unfolding met pairsFrom outcome classAt
   met-next y o h e f =
       let m : n - k ≡ suc (n - (k + 1)) = omega arith in
@@ -51,7 +30,7 @@ module _ (n word check k : ℕ) (t : Counts) (x : List ℕ) where
       (count-next t (decode (wordAt x (word + k)) (at x (check + k))) (wordAt x (word + k))
       (met (fixAt (record { word = word + k; check = check + k }) x) (pairsFrom (n - (k + 1)) (word + (k + 1)) (check + (k + 1)))))
 
-  pub met-done : n ≤ k → plus t (met x (pairsFrom (n - k) (word + k) (check + k))) ≡ t
+  pub met-done : n ≤ k → withClasses t (met x (pairsFrom (n - k) (word + k) (check + k))) ≡ t
   unfolding met pairsFrom
   met-done h = let e : n - k ≡ 0 = omega arith in rw e (count-none t)
 
@@ -61,10 +40,6 @@ pub met-append : (x : List ℕ) (ps qs : List Pair) → met x (ps ++ qs) ≡ met
 unfolding met fixAll
 met-append x [] qs = refl
 met-append x (p ∷ ps) qs = ap (λ (ks : List Class). classAt x p ∷ ks) (met-append (fixAt p x) ps qs)
-
-pub tally-append : (v : Bool) (ks js : List Class) → plus (tally v ks) js ≡ tally v (ks ++ js)
-tally-append v ks js =
-    same-counts v (sym (length-append ks js)) (sym (total-append isCorrected ks js)) (sym (total-append isLost ks js))
 
 -- words laid apart are met as they stood
 pub met-apart : (len : ℕ) (x : List ℕ) {ps : List Pair} → Bytes x → length x ≡ len → AllApart len ps → met x ps ≡ classesAt x ps

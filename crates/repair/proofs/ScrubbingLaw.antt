@@ -18,10 +18,10 @@ use Rattle.paper.specs.Scan.{Pair, pairsFrom, examinedIn, classAt, isCorrected,
 use Rattle.paper.specs.Scrub.{State, storedWord, scrubWord, scrubWords, scrubVisits, scrubRegion, scrubFrom, reported, scrub}
 use Rattle.paper.proofs.ParseLaw.{accepted-long}
 use Rattle.paper.proofs.ScanLaw.{anyOf, mark, visits-words}
-use Rattle.repair.specs.declared.counts.Counts.{Counts}
-use Rattle.repair.specs.Counting.{Stands, scrubIn, Room, counted, reportedBy}
+use Rattle.scan.specs.Tally.{Totals, noTotals, counted, reportedBy}
+use Rattle.scan.proofs.TallyLaw.{counted-tally}
+use Rattle.repair.specs.Counting.{Stands, scrubIn}
 use Rattle.repair.specs.Runs.{visitsAt}
-use Rattle.repair.proofs.MetLaw.{counted-tally}
 
 -- ---- one word
 
@@ -31,7 +31,7 @@ stored-length (flipped i) p x = length-sets x (8 * p .word) (le 8 (flipWord i (w
 stored-length beyond p x = refl
 
 -- the code's step is the definition's
-pub one-word : (t : Counts) (x y : List ℕ) (p : Pair) (o : Outcome) (s : State) → Stands t x s → o ≡ outcome (wordAt x (p .word)) (at x (p .check))
+pub one-word : (t : Totals) (x y : List ℕ) (p : Pair) (o : Outcome) (s : State) → Stands t x s → o ≡ outcome (wordAt x (p .word)) (at x (p .check))
     → y ≡ storedWord (classAt x p) p x → Stands (counted t o) y (scrubWord p s)
 unfolding outcome classAt scrubWord
 one-word t x y p o s k e f =
@@ -44,21 +44,8 @@ one-word t x y p o s k e f =
 
 -- ---- a run of words
 
-pub room-next : (m : ℕ) (t : Counts) (o : Outcome) → Room (suc m) t → Room m (counted t o)
-room-next m t (cleanWord w) r =
-    record { words = omega (arith, r .words); corrected = omega (arith, r .corrected); uncorrectable = omega (arith, r .uncorrectable) }
-room-next m t (correctedWord w) r =
-    record { words = omega (arith, r .words); corrected = omega (arith, r .corrected); uncorrectable = omega (arith, r .uncorrectable) }
-room-next m t uncorrectableWord r =
-    record { words = omega (arith, r .words); corrected = omega (arith, r .corrected); uncorrectable = omega (arith, r .uncorrectable) }
-
-pub counted-words : (t : Counts) (o : Outcome) → counted t o .words ≡ t .words + 1
-counted-words t (cleanWord w) = refl
-counted-words t (correctedWord w) = refl
-counted-words t uncorrectableWord = refl
-
 -- the words ps take a state that the counts and the image stand for to t
-pub record Left (c : Counts) (x : List ℕ) (ps : List Pair) (t : State) : Type 0 where
+pub record Left (c : Totals) (x : List ℕ) (ps : List Pair) (t : State) : Type 0 where
   pub state : State
   pub stands : Stands c x state
   pub ends : scrubWords ps state ≡ t
@@ -105,7 +92,7 @@ words-same (p ∷ ps) s e =
 
 module _ (n i : ℕ) where
   -- the mark of its visit, then its words
-  pub region-stands : (t : Counts) (x : List ℕ) (s : State) → Stands t x s → (r : Counts) (y : List ℕ)
+  pub region-stands : (t : Totals) (x : List ℕ) (s : State) → Stands t x s → (r : Totals) (y : List ℕ)
       → Stands r y (scrubWords (examinedIn (visitsAt n x i)) (mark (anyOf (visitsAt n x i)) s)) → Stands r y (scrubIn n i s)
   unfolding scrubIn
   region-stands t x s k r y h =
@@ -119,10 +106,10 @@ module _ (n i : ℕ) where
       let q = visits-words vs s in
       ap (λ (t : State). t .image) q ∙ words-same (examinedIn vs) (mark (anyOf vs) s) (sym (ap corrections q) ∙ e)
 
-  pub image-same : (t t′ : Counts) (x y : List ℕ) (s : State) → Stands t x s → Stands t′ y (scrubIn n i s) → t .corrected ≡ t′ .corrected → y ≡ x
-  unfolding corrections
+  pub image-same : (t t′ : Totals) (x y : List ℕ) (s : State) → Stands t x s → Stands t′ y (scrubIn n i s) → t .report .corrected ≡ t′ .report .corrected → y ≡ x
+  unfolding corrections report
   image-same t t′ x y s k k′ e =
-      k′ .image ∙ region-same s (sym (ap (λ (c : Counts). c .corrected) (k′ .counts)) ∙ sym e ∙ ap (λ (c : Counts). c .corrected) (k .counts)) ∙ sym (k .image)
+      k′ .image ∙ region-same s (sym (ap (λ (c : Totals). c .report .corrected) (k′ .counts)) ∙ sym e ∙ ap (λ (c : Totals). c .report .corrected) (k .counts)) ∙ sym (k .image)
 
 -- ---- the whole
 
@@ -151,15 +138,10 @@ pub scrub-starts : (x : List ℕ) → parseVerdict x ≡ fine
 unfolding scrub
 scrub-starts x h = rw h
 
-pub start-stands : (x : List ℕ) → Stands (record { any = false; words = 0; corrected = 0; uncorrectable = 0 }) x (record { image = x; met = []; visited = false })
-unfolding total
+pub start-stands : (x : List ℕ) → Stands noTotals x (record { image = x; met = []; visited = false })
+unfolding report total
 start-stands x = record { image = refl; counts = refl }
 
-pub stands-report : (t : Counts) (x : List ℕ) (s : State) → Stands t x s → reportedBy t ≡ reported s
+pub stands-report : (t : Totals) (x : List ℕ) (s : State) → Stands t x s → reportedBy t ≡ reported s
 unfolding report
 stands-report t x s k = ap reportedBy (k .counts)
-
--- a region of fewer than 2^32 words
-pub room-visit : (t : Counts) (n : ℕ) (v : Bool) → Room (2 ^ 32) t → n < 2 ^ 32
-    → Room n (record { any = v; words = t .words; corrected = t .corrected; uncorrectable = t .uncorrectable })
-room-visit t n v r h = record { words = omega (arith, r .words); corrected = r .corrected; uncorrectable = r .uncorrectable }

@@ -15,11 +15,8 @@ ghost use Rattle.scan.specs.Answers.{asScan};
 ghost use Rattle.ecc.specs.CheckTable.{IsCheckTable};
 ghost use Rattle.repair.specs.Runs.{visitsAt};
 ghost use Rattle.repair.specs.Answers.{asMended, asMending, leftBy};
-ghost use Rattle.repair.specs.Counting.{Room, visitedBy, plus, met, scanned};
-use super::counts::Counts;
-use super::counts::count_word;
-use super::counts::report;
-use super::counts::visit;
+ghost use Rattle.scan.specs.Tally.{asTotals, marked, withClasses, Room};
+ghost use Rattle.repair.specs.Counting.{met, scanned};
 use super::runs::run_of;
 use super::words::fix_word;
 use ecc::CheckTable;
@@ -30,6 +27,11 @@ use overlap::Placement;
 use overlap::check_placement;
 use scalar::maj3;
 use scan::Scan;
+use scan::Tally;
+use scan::add_word;
+use scan::empty_tally;
+use scan::scan_result;
+use scan::visit;
 use view::Header;
 
 // What was found before anything was written, how many bytes changed, and whether no word is left uncorrectable.
@@ -117,62 +119,51 @@ fn fix_words(
     word: usize,
     check: usize,
     n: usize,
-    counts: Counts,
-) -> Counts
-    requires { ⌜ (8 * (word + n) ≤ length (now bytes)) × (check + n ≤ length (now bytes)) × Room n counts × IsCheckTable (now table) ⌝ }
+    tally: Tally,
+) -> Tally
+    requires { ⌜ (8 * (word + n) ≤ length (now bytes)) × (check + n ≤ length (now bytes)) × Room n (asTotals tally .report) × IsCheckTable (now table) ⌝ }
     ensures leaves { λ r. ⌜ now (bytes .exit) ≡ paper.fixAll (pairsFrom n word check) (now (bytes .entry)) ⌝ }
-    ensures tells { λ r. ⌜ r ≡ plus counts (met (now (bytes .entry)) (pairsFrom n word check)) ⌝ }
-    ensures grows { λ r. ⌜ (r .words ≤ counts .words + n) × Room 0 r ⌝ }
+    ensures tells { λ r. ⌜ asTotals r ≡ withClasses (asTotals tally) (met (now (bytes .entry)) (pairsFrom n word check)) ⌝ }
+    ensures grows { λ r. ⌜ (r .report .words ≤ tally .report .words + n) × Room 0 (asTotals r .report) ⌝ }
 {
-    let mut total = counts;
+    let mut total = tally;
     let mut k: usize = 0;
     while k < n {
         let status = fix_word(table, bytes, word + k, check + k);
-        total = count_word(total, status);
+        total = add_word(total, status);
         k += 1;
     }
     total
 }
 
 // Entry i of the image as it stands, if there is one.
-fn mend_region(
-    table: &CheckTable,
-    bytes: &mut [u8],
-    header: Header,
-    i: u16,
-    counts: Counts,
-) -> Counts
-    requires { ⌜ Room (2 ^ 32) counts × IsCheckTable (now table) ⌝ }
+fn mend_region(table: &CheckTable, bytes: &mut [u8], header: Header, i: u16, tally: Tally) -> Tally
+    requires { ⌜ Room (2 ^ 32) (asTotals tally .report) × IsCheckTable (now table) ⌝ }
     ensures leaves { λ r. ⌜ now (bytes .exit) ≡ paper.fixAll (examinedIn (visitsAt (header .«region_count») (now (bytes .entry)) i)) (now (bytes .entry)) ⌝ }
-    ensures tells { λ r. ⌜ r ≡ plus (visitedBy counts (anyOf (visitsAt (header .«region_count») (now (bytes .entry)) i))) (met (now (bytes .entry)) (examinedIn (visitsAt (header .«region_count») (now (bytes .entry)) i))) ⌝ }
-    ensures grows { λ r. ⌜ (r .words ≤ counts .words + 2 ^ 32) × Room 0 r ⌝ }
+    ensures tells { λ r. ⌜ asTotals r ≡ withClasses (marked (asTotals tally) (anyOf (visitsAt (header .«region_count») (now (bytes .entry)) i))) (met (now (bytes .entry)) (examinedIn (visitsAt (header .«region_count») (now (bytes .entry)) i))) ⌝ }
+    ensures grows { λ r. ⌜ (r .report .words ≤ tally .report .words + 2 ^ 32) × Room 0 (asTotals r .report) ⌝ }
 {
     let run = run_of(bytes, header, i);
-    let total = visit(counts, run.visited);
-    fix_words(table, bytes, run.word, run.check, run.words, total)
+    let visited = visit(tally, run.visited);
+    fix_words(table, bytes, run.word, run.check, run.words, visited)
 }
 
 // Every examined word, and what a scan would have counted: regions are laid apart, so no word is met that another's repair moved.
-fn mend_words(bytes: &mut [u8], header: Header) -> Counts
+fn mend_words(bytes: &mut [u8], header: Header) -> Tally
     requires { ⌜ (header .«region_count» ≡ count (now bytes)) × (paper.mendVerdict (now bytes) ≡ fine) ⌝ }
     ensures leaves { λ r. ⌜ now (bytes .exit) ≡ mendWords (now (bytes .entry)) ⌝ }
-    ensures tells { λ r. ⌜ r ≡ scanned (now (bytes .entry)) ⌝ }
+    ensures tells { λ r. ⌜ asTotals r ≡ scanned (now (bytes .entry)) ⌝ }
 {
     let n = header.region_count;
     let mut table = EMPTY_TABLE;
     fill_check_table(&mut table);
-    let mut counts = Counts {
-        any: false,
-        words: 0,
-        corrected: 0,
-        uncorrectable: 0,
-    };
+    let mut tally = empty_tally();
     let mut i: u16 = 0;
     while i < n {
-        counts = mend_region(&table, bytes, header, i, counts);
+        tally = mend_region(&table, bytes, header, i, tally);
         i += 1;
     }
-    counts
+    tally
 }
 
 // Nothing is whole without a report.
@@ -192,11 +183,11 @@ fn mend_apart(bytes: &mut [u8], header: Header) -> Mending
     ensures leaves { λ r. ⌜ now (bytes .exit) ≡ paper.mendBytes (now (bytes .entry)) ⌝ }
 {
     let in_header = mend_header(bytes, header);
-    let counts = mend_words(bytes, header);
-    let report = report(counts);
+    let tally = mend_words(bytes, header);
+    let report = scan_result(tally);
     Mending {
         report,
-        stored: in_header + counts.corrected,
+        stored: in_header + tally.report.corrected,
         whole: is_whole(report),
     }
 }

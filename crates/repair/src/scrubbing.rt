@@ -6,17 +6,19 @@ ghost use Rattle.paper.specs.Scan.{pairsFrom};
 ghost use Rattle.scan.specs.Answers.{asScan};
 ghost use Rattle.paper.specs.Scrub as paper;
 ghost use Rattle.ecc.specs.CheckTable.{IsCheckTable};
-ghost use Rattle.repair.specs.Counting.{Stands, scrubIn, Room};
-use super::counts::Counts;
-use super::counts::count_word;
-use super::counts::report;
-use super::counts::visit;
+ghost use Rattle.scan.specs.Tally.{asTotals, Room};
+ghost use Rattle.repair.specs.Counting.{Stands, scrubIn};
 use super::runs::run_of;
 use super::words::scrub_word;
 use ecc::CheckTable;
 use ecc::EMPTY_TABLE;
 use ecc::fill_check_table;
 use scan::Scan;
+use scan::Tally;
+use scan::add_word;
+use scan::empty_tally;
+use scan::scan_result;
+use scan::visit;
 use view::Header;
 use view::ParseResult;
 use view::parse;
@@ -28,37 +30,31 @@ fn scrub_words(
     word: usize,
     check: usize,
     n: usize,
-    counts: Counts,
-) -> Counts
-    requires { ⌜ (8 * (word + n) ≤ length (now bytes)) × (check + n ≤ length (now bytes)) × Room n counts × IsCheckTable (now table) ⌝ }
-    ensures is { λ r. ⌜ ((s : paper.State) → Stands counts (now (bytes .entry)) s → Stands r (now (bytes .exit)) (paper.scrubWords (pairsFrom n word check) s)) ⌝ }
-    ensures grows { λ r. ⌜ (r .words ≤ counts .words + n) × Room 0 r ⌝ }
+    tally: Tally,
+) -> Tally
+    requires { ⌜ (8 * (word + n) ≤ length (now bytes)) × (check + n ≤ length (now bytes)) × Room n (asTotals tally .report) × IsCheckTable (now table) ⌝ }
+    ensures is { λ r. ⌜ ((s : paper.State) → Stands (asTotals tally) (now (bytes .entry)) s → Stands (asTotals r) (now (bytes .exit)) (paper.scrubWords (pairsFrom n word check) s)) ⌝ }
+    ensures grows { λ r. ⌜ (r .report .words ≤ tally .report .words + n) × Room 0 (asTotals r .report) ⌝ }
 {
-    let mut total = counts;
+    let mut total = tally;
     let mut k: usize = 0;
     while k < n {
         let status = scrub_word(table, bytes, word + k, check + k);
-        total = count_word(total, status);
+        total = add_word(total, status);
         k += 1;
     }
     total
 }
 
 // Entry i of the image as it stands, if there is one.
-fn scrub_region(
-    table: &CheckTable,
-    bytes: &mut [u8],
-    header: Header,
-    i: u16,
-    counts: Counts,
-) -> Counts
-    requires { ⌜ Room (2 ^ 32) counts × IsCheckTable (now table) ⌝ }
-    ensures grows { λ r. ⌜ (r .words ≤ counts .words + 2 ^ 32) × Room 0 r ⌝ }
-    ensures is { λ r. ⌜ ((s : paper.State) → Stands counts (now (bytes .entry)) s → Stands r (now (bytes .exit)) (scrubIn (header .«region_count») i s)) ⌝ }
+fn scrub_region(table: &CheckTable, bytes: &mut [u8], header: Header, i: u16, tally: Tally) -> Tally
+    requires { ⌜ Room (2 ^ 32) (asTotals tally .report) × IsCheckTable (now table) ⌝ }
+    ensures grows { λ r. ⌜ (r .report .words ≤ tally .report .words + 2 ^ 32) × Room 0 (asTotals r .report) ⌝ }
+    ensures is { λ r. ⌜ ((s : paper.State) → Stands (asTotals tally) (now (bytes .entry)) s → Stands (asTotals r) (now (bytes .exit)) (scrubIn (header .«region_count») i s)) ⌝ }
 {
     let run = run_of(bytes, header, i);
-    let total = visit(counts, run.visited);
-    scrub_words(table, bytes, run.word, run.check, run.words, total)
+    let visited = visit(tally, run.visited);
+    scrub_words(table, bytes, run.word, run.check, run.words, visited)
 }
 
 // Repairs the corrected words of every protected region and hands back counts: what is left has to be checked afresh.
@@ -74,23 +70,18 @@ pub fn scrub(bytes: &mut [u8]) -> Scan
     fill_check_table(&mut table);
     let mut header = first;
     let mut written: usize = 0;
-    let mut counts = Counts {
-        any: false,
-        words: 0,
-        corrected: 0,
-        uncorrectable: 0,
-    };
+    let mut tally = empty_tally();
     let mut i: u16 = 0;
     while i < first.region_count {
-        if counts.corrected != written {
+        if tally.report.corrected != written {
             let ParseResult::Parsed(again) = parse(bytes) else {
                 return Scan::Nothing;
             };
             header = again;
-            written = counts.corrected;
+            written = tally.report.corrected;
         }
-        counts = scrub_region(&table, bytes, header, i, counts);
+        tally = scrub_region(&table, bytes, header, i, tally);
         i += 1;
     }
-    report(counts)
+    scan_result(tally)
 }

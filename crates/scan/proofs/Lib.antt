@@ -1,3 +1,4 @@
+pub mod TallyLaw
 pub mod RegionLaw
 pub mod TotalLaw
 pub mod OneAnswer

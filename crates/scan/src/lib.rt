@@ -1,4 +1,6 @@
 // Scans of an image against its parity planes, after view.rs: they count, and write nothing. (FORMAT 7)
+mod tally;
+
 ghost use mathlib.Core.Path.{_≡_};
 ghost use Prim.Native.Nat.{ℕ, _+_, _*_, _^_, _<_, _≤_};
 ghost use lib.ListN.{length};
@@ -21,6 +23,11 @@ use layout::Region;
 use tables::PartSpan;
 use tables::Place;
 use tables::region_span;
+pub use tally::Tally;
+pub use tally::add_word;
+pub use tally::empty_tally;
+pub use tally::scan_result;
+pub use tally::visit;
 use view::Header;
 use view::RegionAt;
 use view::ecc_for;

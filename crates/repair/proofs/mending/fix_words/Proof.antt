@@ -6,16 +6,16 @@ use lib.ListN.{length, take}
 use Rattle.paper.specs.Scan.{pairsFrom}
 use Rattle.paper.specs.Mend.{fixAll}
 use Rattle.ecc.specs.Answers.{asOutcome}
-use Rattle.repair.specs.Counting.{Room, plus, met}
-use Rattle.repair.proofs.ScrubbingLaw.{room-next, counted-words}
+use Rattle.scan.specs.Tally.{Totals, asTotals, withClasses, Room}
+use Rattle.scan.proofs.TallyLaw.{room-next, counted-words}
+use Rattle.repair.specs.Counting.{met}
 use Rattle.repair.proofs.MetLaw.{met-next, met-done}
 use Rattle.repair.proofs.MendingLaw.{fix-next, fix-done}
-use Rattle.repair.specs.declared.counts.Counts.{Counts}
 use Rattle.repair.proofs.mending.fix_words.Statement.{statement}
 use Rattle.repair.proofs.mending.fix_words.Tie as tie
 
 abbrev Inv-loop : tie.InvT-loop
-Inv-loop table bytes₀ word check n total₀ k₀ bytes total k = (k ≤ n) × (length bytes ≡ length bytes₀) × Room (n - k) total × (fixAll (pairsFrom (n - k) (word + k) (check + k)) bytes ≡ fixAll (pairsFrom n word check) bytes₀) × (plus total (met bytes (pairsFrom (n - k) (word + k) (check + k))) ≡ plus total₀ (met bytes₀ (pairsFrom n word check))) × (total .words ≡ total₀ .words + k)
+Inv-loop table bytes₀ word check n total₀ k₀ bytes total k = (k ≤ n) × (length bytes ≡ length bytes₀) × Room (n - k) (asTotals total .report) × (fixAll (pairsFrom (n - k) (word + k) (check + k)) bytes ≡ fixAll (pairsFrom n word check) bytes₀) × (withClasses (asTotals total) (met bytes (pairsFrom (n - k) (word + k) (check + k))) ≡ withClasses (asTotals total₀) (met bytes₀ (pairsFrom n word check))) × (total .report .words ≡ total₀ .report .words + k)
 
 abbrev μ-loop : tie.MeasureT-loop
 μ-loop table bytes₀ word check n total₀ k₀ bytes total k = n - k
@@ -31,10 +31,10 @@ loop-holds c =
 fix-word-requires : tie.Need-fix-word-requires Inv-loop μ-loop
 fix-word-requires c κs = (omega arith, omega arith, c .before .before .before .before .pre .3)
 
-count-word-requires : tie.Need-count-word-requires Inv-loop μ-loop
-count-word-requires c κs =
+add-word-requires : tie.Need-add-word-requires Inv-loop μ-loop
+add-word-requires c κs =
     let r = c .before .before .before .before .before .loop .inv .2 in
-    record { words = omega (arith, r .words); corrected = r .corrected; uncorrectable = r .uncorrectable }
+    record { words = omega (arith, r .words); counts = r .counts }
 
 loop-again : tie.Need-loop-again Inv-loop μ-loop
 loop-again c =
@@ -46,13 +46,13 @@ loop-again c =
     let n : g .n - k ≡ suc (g .n - (k + 1)) = omega arith in (
       omega arith,
       omega (arith, v .before .before .before .loop .inv .1, c .before .before .bytes .given),
-      subst (Room (g .n - (k + 1))) (sym (c .count-word .ensures))
-          (room-next (g .n - (k + 1)) (a .loop .total) o (subst (λ (m : ℕ). Room m (a .loop .total)) n (a .loop .inv .2))),
+      subst (λ (t : Totals). Room (g .n - (k + 1)) (t .report)) (sym (c .add-word .ensures))
+          (room-next (asTotals (a .loop .total)) (g .n - (k + 1)) o (subst (λ (m : ℕ). Room m (asTotals (a .loop .total) .report)) n (a .loop .inv .2))),
       ap (fixAll (pairsFrom (g .n - (k + 1)) (g .word + (k + 1)) (g .check + (k + 1)))) (v .fix-word .ensures .1)
           ∙ sym (fix-next (g .n) (g .word) (g .check) k (a .loop .bytes) (omega arith)) ∙ a .loop .inv .3,
-      ap (λ (z : Counts). plus z (met (v .fix-word .last .1 .0) (pairsFrom (g .n - (k + 1)) (g .word + (k + 1)) (g .check + (k + 1))))) (c .count-word .ensures)
-          ∙ met-next (g .n) (g .word) (g .check) k (a .loop .total) (a .loop .bytes) (v .fix-word .last .1 .0) o (omega arith) (v .fix-word .ensures .0) (v .fix-word .ensures .1) ∙ a .loop .inv .4,
-      ap (λ (z : Counts). z .words) (c .count-word .ensures) ∙ counted-words (a .loop .total) o ∙ omega arith,
+      ap (λ (z : Totals). withClasses z (met (v .fix-word .last .1 .0) (pairsFrom (g .n - (k + 1)) (g .word + (k + 1)) (g .check + (k + 1))))) (c .add-word .ensures)
+          ∙ met-next (g .n) (g .word) (g .check) k (asTotals (a .loop .total)) (a .loop .bytes) (v .fix-word .last .1 .0) o (omega arith) (v .fix-word .ensures .0) (v .fix-word .ensures .1) ∙ a .loop .inv .4,
+      ap (λ (z : Totals). z .report .words) (c .add-word .ensures) ∙ counted-words (asTotals (a .loop .total)) o ∙ omega arith,
     )
 
 returns : tie.Need-returns Inv-loop μ-loop
@@ -62,8 +62,8 @@ returns c =
     let r = a .loop .inv .2 in (
       sym (fix-done (g .n) (g .word) (g .check) (a .loop .k) (a .loop .bytes) (omega arith)) ∙ a .loop .inv .3,
       (
-        sym (met-done (g .n) (g .word) (g .check) (a .loop .k) (a .loop .total) (a .loop .bytes) (omega arith)) ∙ a .loop .inv .4,
-        (omega arith, record { words = omega (arith, r .words); corrected = r .corrected; uncorrectable = r .uncorrectable }),
+        sym (met-done (g .n) (g .word) (g .check) (a .loop .k) (asTotals (a .loop .total)) (a .loop .bytes) (omega arith)) ∙ a .loop .inv .4,
+        (omega arith, record { words = omega (arith, r .words); counts = r .counts }),
       ),
     )
 
@@ -77,7 +77,7 @@ fix-words-spec =
     (λ c. omega arith)
     (λ c. omega arith)
     fix-word-requires
-    count-word-requires
+    add-word-requires
     (λ c. omega arith)
     (λ c. omega arith)
     loop-again

@@ -17,8 +17,8 @@ use Rattle.paper.specs.Mend.{mendVerdict, changed, mendBytes}
 use Rattle.laws.specs.Steps.{mendHeader, mendWords}
 use Rattle.laws.proofs.Apart.{accepted}
 use Rattle.scan.specs.Answers.{asScan}
-use Rattle.repair.specs.declared.counts.Counts.{Counts}
-use Rattle.repair.specs.Counting.{reportedBy, scanned}
+use Rattle.scan.specs.Tally.{Totals, asTotals, reportedBy}
+use Rattle.repair.specs.Counting.{scanned}
 use Rattle.repair.proofs.SettleLaw.{changed-most}
 use Rattle.repair.proofs.MendingLaw.{after-header, mended-all, header-scanned, scanned-report, all-stored, mend-fine}
 use Rattle.repair.proofs.mending.mend_apart.Statement.{statement}
@@ -39,12 +39,12 @@ mend-words-requires c κs =
     after-header x (s .pre .1) (record { small = λ p. omega (arith, bs .given p .fits) }) (s .args .header .«region_count») (h .last .0) (s .pre .0) (h .ensures .0)
 
 -- header bytes and corrected words make up what is stored
-module _ (x y : List ℕ) (v : mendVerdict x ≡ fine) (b : Bytes x) (h : ℕ) (e : y ≡ mendHeader x) (n : h ≡ changed x y) (t : Counts) (f : t ≡ scanned y) where
+module _ (x y : List ℕ) (v : mendVerdict x ≡ fine) (b : Bytes x) (h : ℕ) (e : y ≡ mendHeader x) (n : h ≡ changed x y) (t : Totals) (f : t ≡ scanned y) where
   as-scanned : t ≡ scanned x
   as-scanned = f ∙ ap scanned e ∙ header-scanned x v b
 
-  stored : h + t .corrected ≡ changed x (mendBytes x)
-  stored = all-stored x v b h (t .corrected) (n ∙ ap (changed x) e) (ap (λ (q : Counts). q .corrected) as-scanned)
+  stored : h + t .report .corrected ≡ changed x (mendBytes x)
+  stored = all-stored x v b h (t .report .corrected) (n ∙ ap (changed x) e) (ap (λ (q : Totals). q .report .corrected) as-scanned)
 
 add-t10 : tie.Need-add-t10
 add-t10 c =
@@ -53,12 +53,12 @@ add-t10 c =
     let bs = c .before .before .before .before .before .before .before .before .before .before .slice-known in
     let s = c .before .before .before .before .before .before .before .before .before .before .before in
     let x = now (s .args .bytes) in
-    let e = stored x (h .last .0) (s .pre .1) (record { small = λ p. omega (arith, bs .given p .fits) }) (h .result) (h .ensures .0) (h .ensures .1) (w .result) (w .ensures .1) in
+    let e = stored x (h .last .0) (s .pre .1) (record { small = λ p. omega (arith, bs .given p .fits) }) (h .result) (h .ensures .0) (h .ensures .1) (asTotals (w .result)) (w .ensures .1) in
     omega (arith, e, changed-most x (mendBytes x))
 
 returns : tie.Need-returns
 returns c =
-    let r = c .before .before .report in
+    let r = c .before .before .scan-result in
     let w = c .before .before .before .before .before .mend-words in
     let h = c .before .before .before .before .before .before .before .before .before .mend-header in
     let bs = c .before .before .before .before .before .before .before .before .before .before .before .slice-known in
@@ -67,11 +67,11 @@ returns c =
     let v = s .pre .1 in
     let bx : Bytes x = record { small = λ p. omega (arith, bs .given p .fits) } in
     let told : asScan (r .result) ≡ scan x =
-    r .ensures ∙ ap reportedBy (as-scanned x (h .last .0) v bx (h .result) (h .ensures .0) (h .ensures .1) (w .result) (w .ensures .1)) ∙ scanned-report x in
+    r .ensures ∙ ap reportedBy (as-scanned x (h .last .0) v bx (h .result) (h .ensures .0) (h .ensures .1) (asTotals (w .result)) (w .ensures .1)) ∙ scanned-report x in
     let left : w .last .0 ≡ mendBytes x = w .ensures .0 ∙ ap mendWords (h .ensures .0) ∙ mended-all x v bx in (
-      ap₂ (λ (y : List ℕ) (o : Option Report). paper.mended y o (h .result + w .result .corrected) (c .is-whole .result)) left told
+      ap₂ (λ (y : List ℕ) (o : Option Report). paper.mended y o (h .result + w .result .report .corrected) (c .is-whole .result)) left told
           ∙ ap₂ (λ (n : ℕ) (t : Bool). paper.mended (mendBytes x) (scan x) n t)
-          (stored x (h .last .0) v bx (h .result) (h .ensures .0) (h .ensures .1) (w .result) (w .ensures .1)) (c .is-whole .ensures ∙ ap paper.noneUncorrectable told)
+          (stored x (h .last .0) v bx (h .result) (h .ensures .0) (h .ensures .1) (asTotals (w .result)) (w .ensures .1)) (c .is-whole .ensures ∙ ap paper.noneUncorrectable told)
           ∙ sym (mend-fine x v),
       left,
     )

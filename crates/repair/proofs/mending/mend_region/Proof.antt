@@ -1,14 +1,15 @@
 -- `repair::mending::mend_region` meets its contract. Assumes nothing.
 use mathlib.Core.Path.{_≡_, sym, ap, ap₂, _∙_, subst}
 use mathlib.Core.List.{List}
+use Prim.Native.Nat.{_^_}
 use native.Mathlib.Omega.{arith}
 use borrow.Author.Needs.{needs}
 use denote.Ref.{now}
 use Rattle.paper.specs.Scan.{Pair}
 use Rattle.paper.specs.Mend.{fixAll}
-use Rattle.repair.specs.Counting.{Room, visitedBy, plus, met}
-use Rattle.repair.specs.declared.counts.Counts.{Counts}
-use Rattle.repair.proofs.ScrubbingLaw.{room-visit}
+use Rattle.scan.specs.Tally.{Totals, asTotals, marked, withClasses, Room}
+use Rattle.scan.proofs.TallyLaw.{room-less}
+use Rattle.repair.specs.Counting.{met}
 use Rattle.repair.proofs.mending.mend_region.Statement.{statement}
 use Rattle.repair.proofs.mending.mend_region.Tie as tie
 
@@ -18,7 +19,7 @@ fix-words-requires c κs =
     let s = c .before .before .before .before .before in (
       r .ensures .data-fits,
       r .ensures .checks-fit,
-      subst (Room (r .result .words)) (sym (c .before .visit .ensures)) (room-visit (s .args .counts) (r .result .words) _ (s .pre .0) (r .ensures .few)),
+      subst (λ (t : Totals). Room (r .result .words) (t .report)) (sym (c .before .visit .ensures)) (room-less (2 ^ 32) (r .result .words) (asTotals (s .args .tally) .report) (s .pre .0) (omega (arith, r .ensures .few))),
       s .pre .1,
     )
 
@@ -29,11 +30,11 @@ returns c =
     let r = c .before .before .before .before .before .run-of in
     let g = c .before .before .before .before .before .before .before .before .args in
     let x = now (g .bytes) in
-    let t = g .counts in
-    let e : v .result .words ≡ t .words = ap (λ (q : Counts). q .words) (v .ensures) in (
+    let t = asTotals (g .tally) in
+    let e : v .result .report .words ≡ t .report .words = ap (λ (q : Totals). q .report .words) (v .ensures) in (
       w .ensures .0 ∙ ap (λ (ps : List Pair). fixAll ps x) (r .ensures .pairs),
       (
-        w .ensures .1 .0 ∙ ap₂ (λ (q : Counts) (ps : List Pair). plus q (met x ps)) (v .ensures ∙ ap (visitedBy t) (r .ensures .visits)) (r .ensures .pairs),
+        w .ensures .1 .0 ∙ ap₂ (λ (q : Totals) (ps : List Pair). withClasses q (met x ps)) (v .ensures ∙ ap (marked t) (r .ensures .visits)) (r .ensures .pairs),
         (omega (arith, w .ensures .1 .1 .0, r .ensures .few), w .ensures .1 .1 .1),
       ),
     )

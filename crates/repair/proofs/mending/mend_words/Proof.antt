@@ -9,33 +9,36 @@ use Rattle.paper.specs.Scan.{examinedIn}
 use Rattle.paper.specs.Mend.{fixAll}
 use Rattle.paper.proofs.ScanLaw.{anyOf}
 use Rattle.repair.specs.Runs.{visitsAt}
-use Rattle.repair.specs.Counting.{Room, visitedBy, plus, met}
-use Rattle.repair.proofs.MendingLaw.{fixedTo, tallied, none-fixed, none-tallied, fixed-next, tally-next, all-fixed, tally-all}
+use Rattle.scan.specs.Tally.{Totals, asTotals, marked, withClasses, Room}
+use Rattle.scan.proofs.TallyLaw.{room-start}
+use Rattle.repair.specs.Counting.{met}
+use Rattle.repair.proofs.MendingLaw.{fixedTo, talliedTo, none-fixed, none-tallied, fixed-next, tally-next, all-fixed, tally-all}
 use Rattle.repair.proofs.mending.mend_words.Statement.{statement}
 use Rattle.repair.proofs.mending.mend_words.Tie as tie
 
 abbrev Inv-loop : tie.InvT-loop
-Inv-loop bytes₀ header n table counts₀ i₀ bytes counts i = (i ≤ header .«region_count») × (length bytes ≡ length bytes₀) × (counts .words ≤ i * 2 ^ 32) × Room 0 counts × (bytes ≡ fixedTo bytes₀ i) × (counts ≡ tallied bytes₀ i)
+Inv-loop bytes₀ header n table tally₀ i₀ bytes tally i = (i ≤ header .«region_count») × (length bytes ≡ length bytes₀) × (tally .report .words ≤ i * 2 ^ 32) × Room 0 (asTotals tally .report) × (bytes ≡ fixedTo bytes₀ i) × (asTotals tally ≡ talliedTo bytes₀ i)
 
 abbrev μ-loop : tie.MeasureT-loop
-μ-loop bytes₀ header n table counts₀ i₀ bytes counts i = header .«region_count» - i
+μ-loop bytes₀ header n table tally₀ i₀ bytes tally i = header .«region_count» - i
 
 loop-holds : tie.Need-loop-holds Inv-loop μ-loop
 loop-holds c =
-    let x = now (c .before .before .before .args .bytes) in
-    (omega arith, refl, omega arith, record { words = omega arith; corrected = omega arith; uncorrectable = omega arith }, sym (none-fixed x), sym (none-tallied x))
+    let e = c .empty-tally .ensures in
+    let x = now (c .before .before .before .before .args .bytes) in
+    (omega arith, refl, omega (arith, ap (λ (t : Totals). t .report .words) e), room-start _ e, sym (none-fixed x), e ∙ sym (none-tallied x))
 
 mend-region-requires : tie.Need-mend-region-requires Inv-loop μ-loop
 mend-region-requires c κs =
     let r = c .before .before .before .loop .inv .3 in
-    (record { words = omega arith; corrected = r .corrected; uncorrectable = r .uncorrectable }, c .before .before .before .before .fill-check-table .ensures)
+    (record { words = omega arith; counts = r .counts }, c .before .before .before .before .before .fill-check-table .ensures)
 
 loop-again : tie.Need-loop-again Inv-loop μ-loop
 loop-again c =
     let o = c .before .before .mend-region in
     let l = c .before .before .before .before .before .before .loop in
-    let k = c .before .before .before .before .before .before .before .before .before .slice-known in
-    let s = c .before .before .before .before .before .before .before .before .before .before in
+    let k = c .before .before .before .before .before .before .before .before .before .before .slice-known in
+    let s = c .before .before .before .before .before .before .before .before .before .before .before in
     let x = now (s .args .bytes) in
     let y = l .bytes in
     let bs : Bytes x = record { small = λ p. omega (arith, k .given p .fits) } in
@@ -46,15 +49,15 @@ loop-again c =
       o .ensures .1 .1 .1,
       o .ensures .0 ∙ ap (λ (m : ℕ). fixAll (examinedIn (visitsAt m y (l .i))) y) (s .pre .0)
           ∙ fixed-next x (s .pre .1) bs (l .i) y (l .inv .4) ∙ ap (fixedTo x) e,
-      o .ensures .1 .0 ∙ ap (λ (m : ℕ). plus (visitedBy (l .counts) (anyOf (visitsAt m y (l .i)))) (met y (examinedIn (visitsAt m y (l .i))))) (s .pre .0)
-          ∙ tally-next x (s .pre .1) bs (l .i) y (l .counts) (l .inv .4) (l .inv .5) ∙ ap (tallied x) e,
+      o .ensures .1 .0 ∙ ap (λ (m : ℕ). withClasses (marked (asTotals (l .tally)) (anyOf (visitsAt m y (l .i)))) (met y (examinedIn (visitsAt m y (l .i))))) (s .pre .0)
+          ∙ tally-next x (s .pre .1) bs (l .i) y (asTotals (l .tally)) (l .inv .4) (l .inv .5) ∙ ap (talliedTo x) e,
     )
 
 returns : tie.Need-returns Inv-loop μ-loop
 returns c =
     let l = c .before .loop in
-    let k = c .before .before .before .before .slice-known in
-    let s = c .before .before .before .before .before in
+    let k = c .before .before .before .before .before .slice-known in
+    let s = c .before .before .before .before .before .before in
     let x = now (s .args .bytes) in
     let bs : Bytes x = record { small = λ p. omega (arith, k .given p .fits) } in
     (l .inv .4 ∙ all-fixed x (l .i) (omega (arith, s .pre .0)), l .inv .5 ∙ tally-all x (s .pre .1) bs (l .i) (omega (arith, s .pre .0)))
@@ -65,6 +68,7 @@ mend-words-spec =
     (tie.spec
     Inv-loop
     μ-loop
+    (λ c κs. omega arith)
     (λ c κs. omega arith)
     loop-holds
     mend-region-requires

@@ -17,8 +17,9 @@ use Rattle.paper.specs.Scrub.{State, Scrubbed, scrubFrom, reported}
 use Rattle.paper.specs.Scrub as paper
 use Rattle.view.specs.declared.header.Header.{Header}
 use Rattle.view.proofs.AnswersLaw.{parsed-fine, parsed-count, parsed-refused}
-use Rattle.repair.specs.Counting.{Stands, scrubIn, Room}
-use Rattle.repair.specs.declared.counts.Counts.{Counts}
+use Rattle.scan.specs.Tally.{Totals, asTotals, Room}
+use Rattle.scan.proofs.TallyLaw.{room-start}
+use Rattle.repair.specs.Counting.{Stands, scrubIn}
 use Rattle.repair.proofs.ScrubbingLaw.{image-same, region-is, from-next, from-failed, from-done, scrub-failed, scrub-starts, start-stands, stands-report}
 use Rattle.repair.proofs.scrubbing.scrub.Statement.{statement}
 use Rattle.repair.proofs.scrubbing.scrub.Tie as tie
@@ -29,13 +30,13 @@ record Checked (x : List ℕ) (h : Header) : Type 0 where
   count-now : h .«region_count» ≡ count x
 
 -- the n - i regions that are left take a state that the counts and the image stand for to what is asked of x₀
-record Goes (x₀ : List ℕ) (n i : ℕ) (t : Counts) (x : List ℕ) : Type 0 where
+record Goes (x₀ : List ℕ) (n i : ℕ) (t : Totals) (x : List ℕ) : Type 0 where
   state : State
   stands : Stands t x state
   ends : scrubFrom (n - i) i state ≡ paper.scrub x₀
 
 -- a turn: region i is scrubbed in an image that is known to parse
-module _ (x₀ : List ℕ) (n i : ℕ) (t t′ : Counts) (x y : List ℕ) (h : Header) (k : Checked x h) (l : i < n) (g : Goes x₀ n i t x)
+module _ (x₀ : List ℕ) (n i : ℕ) (t t′ : Totals) (x y : List ℕ) (h : Header) (k : Checked x h) (l : i < n) (g : Goes x₀ n i t x)
     (e : (s : State) → Stands t x s → Stands t′ y (scrubIn (h .«region_count») i s)) where
   turn : Goes x₀ n (i + 1) t′ y
   turn =
@@ -52,7 +53,7 @@ module _ (x₀ : List ℕ) (n i : ℕ) (t t′ : Counts) (x y : List ℕ) (h : H
       }
 
   -- where nothing was corrected, the image is the same
-  still : t .corrected ≡ t′ .corrected → Checked y h
+  still : t .report .corrected ≡ t′ .report .corrected → Checked y h
   still f =
       subst (λ (w : List ℕ). Checked w h) (sym (image-same (h .«region_count») i t t′ x y (g .state) (g .stands) (e (g .state) (g .stands)) f)) k
 
@@ -60,10 +61,10 @@ abbrev record-of : State → Scrubbed
 record-of s = record { image = s .image; report = reported s }
 
 abbrev Inv-loop : tie.InvT-loop
-Inv-loop bytes₀ first table header₀ written₀ counts₀ i₀ bytes header written counts i = (i ≤ first .«region_count») × (length bytes ≡ length bytes₀) × (counts .words ≤ i * 2 ^ 32) × Room 0 counts × Goes bytes₀ (first .«region_count») i counts bytes × (written ≡ counts .corrected → Checked bytes header)
+Inv-loop bytes₀ first table header₀ written₀ tally₀ i₀ bytes header written tally i = (i ≤ first .«region_count») × (length bytes ≡ length bytes₀) × (tally .report .words ≤ i * 2 ^ 32) × Room 0 (asTotals tally .report) × Goes bytes₀ (first .«region_count») i (asTotals tally) bytes × (written ≡ tally .report .corrected → Checked bytes header)
 
 abbrev μ-loop : tie.MeasureT-loop
-μ-loop bytes₀ first table header₀ written₀ counts₀ i₀ bytes header written counts i = first .«region_count» - i
+μ-loop bytes₀ first table header₀ written₀ tally₀ i₀ bytes header written tally i = first .«region_count» - i
 
 returns : tie.Need-returns Inv-loop μ-loop
 returns c =
@@ -74,21 +75,22 @@ returns c =
 
 loop-holds : tie.Need-loop-holds Inv-loop μ-loop
 loop-holds c =
-    let p = c .before .before .before .before .before in
+    let e = c .empty-tally .ensures in
+    let p = c .before .before .before .before .before .before in
     let x = now (p .before .before .before .args .bytes) in
-    let f = parsed-fine x (p .parse .result) (p .parse .ensures) (c .before .before .before .first .given .0 .0) (c .before .before .before .first .given .1) in
-    let n = parsed-count x (p .parse .result) (p .parse .ensures) (c .before .before .before .first .given .0 .0) (c .before .before .before .first .given .1) in
-    let z : c .before .before .before .first .given .0 .0 .«region_count» - 0 ≡ count x = omega (arith, n) in (
+    let f = parsed-fine x (p .parse .result) (p .parse .ensures) (c .before .before .before .before .first .given .0 .0) (c .before .before .before .before .first .given .1) in
+    let n = parsed-count x (p .parse .result) (p .parse .ensures) (c .before .before .before .before .first .given .0 .0) (c .before .before .before .before .first .given .1) in
+    let z : c .before .before .before .before .first .given .0 .0 .«region_count» - 0 ≡ count x = omega (arith, n) in (
       omega arith,
       refl,
-      omega arith,
-      record { words = omega arith; corrected = omega arith; uncorrectable = omega arith },
+      omega (arith, ap (λ (t : Totals). t .report .words) e),
+      room-start _ e,
       record {
         state = record { image = x; met = []; visited = false };
-        stands = start-stands x;
+        stands = subst (λ (t : Totals). Stands t x (record { image = x; met = []; visited = false })) (sym e) (start-stands x);
         ends = ap (λ (m : ℕ). scrubFrom m 0 (record { image = x; met = []; visited = false })) z ∙ sym (scrub-starts x f);
       },
-      λ e. record { fine-now = f; count-now = n },
+      λ q. record { fine-now = f; count-now = n },
     )
 
 same-length-2 : tie.Need-same-length-2 Inv-loop μ-loop
@@ -98,8 +100,8 @@ returns-2 : tie.Need-returns-2 Inv-loop μ-loop
 returns-2 c =
     let p = c .before .before in
     let a = p .before .before .before .before .before .before in
-    let g = a .before .before .before .before .before .before .before .before .before .args in
-    let n = a .before .before .before .before .first .given .0 .0 .«region_count» in
+    let g = a .before .before .before .before .before .before .before .before .before .before .args in
+    let n = a .before .before .before .before .before .first .given .0 .0 .«region_count» in
     let z : suc (n - (a .loop .i + 1)) ≡ n - a .loop .i = omega arith in
     let q = a .loop .inv .4 in
     let s = q .state in
@@ -112,17 +114,17 @@ scrub-region-requires : tie.Need-scrub-region-requires Inv-loop μ-loop
 scrub-region-requires c κs =
     let a = c .before .before .before .before .before .before in
     let r = a .loop .inv .3 in
-    (record { words = omega arith; corrected = r .corrected; uncorrectable = r .uncorrectable }, a .before .fill-check-table .ensures)
+    (record { words = omega arith; counts = r .counts }, a .before .before .fill-check-table .ensures)
 
 loop-again : tie.Need-loop-again Inv-loop μ-loop
 loop-again c =
     let o = c .before .before in
     let j = o .before .before .before in
     let a = j .before .before .before .before in
-    let g = a .before .before .before .before .before .before .before .before .before .args in
+    let g = a .before .before .before .before .before .before .before .before .before .before .args in
     let x = a .loop .bytes in
-    let n = a .before .before .before .before .first .given .0 .0 .«region_count» in
-    let ready : Checked x (j .if2 .header) × (j .if2 .written ≡ a .loop .counts .corrected) =
+    let n = a .before .before .before .before .before .first .given .0 .0 .«region_count» in
+    let ready : Checked x (j .if2 .header) × (j .if2 .written ≡ a .loop .tally .report .corrected) =
     ⊎-elim
     (λ w. (
       record {
@@ -133,15 +135,15 @@ loop-again c =
     ))
     (λ w. (subst (Checked x) (sym (w .1)) (a .loop .inv .5 (sym (w .0 .left))), w .2 ∙ sym (w .0 .left)))
     (j .if2 .came) in
-    let t = o .scrub-region .result in
+    let t = asTotals (o .scrub-region .result) in
     let y = o .scrub-region .last .1 .0 in
     let e = o .scrub-region .ensures .1 in (
       omega arith,
       omega (arith, c .before .bytes .given),
       omega (arith, o .scrub-region .ensures .0 .0),
       o .scrub-region .ensures .0 .1,
-      turn (now (g .bytes)) n (a .loop .i) (a .loop .counts) t x y (j .if2 .header) (ready .0) (omega arith) (a .loop .inv .4) e,
-      λ f. still (now (g .bytes)) n (a .loop .i) (a .loop .counts) t x y (j .if2 .header) (ready .0) (omega arith) (a .loop .inv .4) e (sym (ready .1) ∙ f),
+      turn (now (g .bytes)) n (a .loop .i) (asTotals (a .loop .tally)) t x y (j .if2 .header) (ready .0) (omega arith) (a .loop .inv .4) e,
+      λ f. still (now (g .bytes)) n (a .loop .i) (asTotals (a .loop .tally)) t x y (j .if2 .header) (ready .0) (omega arith) (a .loop .inv .4) e (sym (ready .1) ∙ f),
     )
 
 same-length-3 : tie.Need-same-length-3 Inv-loop μ-loop
@@ -150,14 +152,14 @@ same-length-3 c = c .before .before .before .loop .inv .1
 returns-3 : tie.Need-returns-3 Inv-loop μ-loop
 returns-3 c =
     let a = c .before .before .before in
-    let g = a .before .before .before .before .before .before .before .before .before .args in
-    let n = a .before .before .before .before .first .given .0 .0 .«region_count» in
+    let g = a .before .before .before .before .before .before .before .before .before .before .args in
+    let n = a .before .before .before .before .before .first .given .0 .0 .«region_count» in
     let z : 0 ≡ n - a .loop .i = omega arith in
     let q = a .loop .inv .4 in
     let s = q .state in
     let e : record-of s ≡ paper.scrub (now (g .bytes)) =
     sym (from-done (a .loop .i) s) ∙ ap (λ (m : ℕ). scrubFrom m (a .loop .i) s) z ∙ q .ends in (
-      c .report .ensures ∙ stands-report (a .loop .counts) (a .loop .bytes) s (q .stands) ∙ ap (λ (r : Scrubbed). r .report) e,
+      c .scan-result .ensures ∙ stands-report (asTotals (a .loop .tally)) (a .loop .bytes) s (q .stands) ∙ ap (λ (r : Scrubbed). r .report) e,
       q .stands .image ∙ ap (λ (r : Scrubbed). r .image) e,
     )
 
@@ -172,6 +174,7 @@ scrub-spec =
     (λ c. search needs)
     (λ c. search needs)
     returns
+    (λ c κs. search needs)
     (λ c κs. search needs)
     loop-holds
     (λ c κs. search needs)

@@ -1,16 +1,18 @@
 -- `repair::scrubbing::scrub_region` meets its contract. Assumes nothing.
 use mathlib.Core.Path.{_≡_, sym, ap, ap₂, _∙_, subst}
 use mathlib.Core.List.{List}
+use Prim.Native.Nat.{_^_}
 use native.Mathlib.Omega.{arith}
 use borrow.Author.Needs.{needs}
 use denote.Ref.{now}
 use Rattle.paper.specs.Scan.{Pair}
 use Rattle.paper.specs.Scrub.{scrubWords}
 use Rattle.paper.proofs.ScanLaw.{anyOf, mark}
-use Rattle.repair.specs.Counting.{Stands, visitedBy, Room}
+use Rattle.scan.specs.Tally.{Totals, asTotals, marked, Room}
+use Rattle.scan.proofs.TallyLaw.{room-less}
+use Rattle.repair.specs.Counting.{Stands}
 use Rattle.repair.specs.Runs.{visitsAt}
-use Rattle.repair.specs.declared.counts.Counts.{Counts}
-use Rattle.repair.proofs.ScrubbingLaw.{room-visit, region-stands}
+use Rattle.repair.proofs.ScrubbingLaw.{region-stands}
 use Rattle.repair.proofs.scrubbing.scrub_region.Statement.{statement}
 use Rattle.repair.proofs.scrubbing.scrub_region.Tie as tie
 
@@ -20,7 +22,7 @@ scrub-words-requires c κs =
     let s = c .before .before .before .before .before in (
       r .ensures .data-fits,
       r .ensures .checks-fit,
-      subst (Room (r .result .words)) (sym (c .before .visit .ensures)) (room-visit (s .args .counts) (r .result .words) _ (s .pre .0) (r .ensures .few)),
+      subst (λ (t : Totals). Room (r .result .words) (t .report)) (sym (c .before .visit .ensures)) (room-less (2 ^ 32) (r .result .words) (asTotals (s .args .tally) .report) (s .pre .0) (omega (arith, r .ensures .few))),
       s .pre .1,
     )
 
@@ -31,16 +33,16 @@ returns c =
     let r = c .before .before .before .before .before .run-of in
     let g = c .before .before .before .before .before .before .before .before .args in
     let x = now (g .bytes) in
-    let t = g .counts in
-    let e : v .result .words ≡ t .words = ap (λ (q : Counts). q .words) (v .ensures) in (
+    let t = asTotals (g .tally) in
+    let e : v .result .report .words ≡ t .report .words = ap (λ (q : Totals). q .report .words) (v .ensures) in (
       (omega (arith, w .ensures .1 .0, r .ensures .few), w .ensures .1 .1),
       λ s h.
           let n = g .header .«region_count» in
           let vs = visitsAt n x (g .i) in
-          let m : Stands (v .result) x (mark (anyOf vs) s) =
-          record { image = h .image; counts = v .ensures ∙ ap₂ visitedBy (h .counts) (r .ensures .visits) } in
-          region-stands n (g .i) t x s h (w .result) (w .last .1 .0)
-          (subst (λ (ps : List Pair). Stands (w .result) (w .last .1 .0) (scrubWords ps (mark (anyOf vs) s))) (r .ensures .pairs) (w .ensures .0 (mark (anyOf vs) s) m)),
+          let m : Stands (asTotals (v .result)) x (mark (anyOf vs) s) =
+          record { image = h .image; counts = v .ensures ∙ ap₂ marked (h .counts) (r .ensures .visits) } in
+          region-stands n (g .i) t x s h (asTotals (w .result)) (w .last .1 .0)
+          (subst (λ (ps : List Pair). Stands (asTotals (w .result)) (w .last .1 .0) (scrubWords ps (mark (anyOf vs) s))) (r .ensures .pairs) (w .ensures .0 (mark (anyOf vs) s) m)),
     )
 
 pub scrub-region-spec : {M : Type 1} → statement M

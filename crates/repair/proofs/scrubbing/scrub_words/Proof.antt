@@ -6,9 +6,10 @@ use lib.ListN.{length, take}
 use Rattle.paper.specs.Scan.{Pair, pairsFrom, classAt}
 use Rattle.paper.specs.Scrub.{State, storedWord, scrubWord, scrubWords}
 use Rattle.ecc.specs.Answers.{asOutcome}
-use Rattle.repair.specs.Counting.{Stands, Room}
-use Rattle.repair.proofs.ScrubbingLaw.{one-word, stored-length, room-next, Left, words-next, words-done, counted-words}
-use Rattle.repair.specs.declared.counts.Counts.{Counts}
+use Rattle.scan.specs.Tally.{Totals, asTotals, Room}
+use Rattle.scan.proofs.TallyLaw.{room-next, counted-words}
+use Rattle.repair.specs.Counting.{Stands}
+use Rattle.repair.proofs.ScrubbingLaw.{one-word, stored-length, Left, words-next, words-done}
 use Rattle.repair.proofs.scrubbing.scrub_words.Statement.{statement}
 use Rattle.repair.proofs.scrubbing.scrub_words.Tie as tie
 
@@ -16,7 +17,7 @@ abbrev record-pair : ℕ → ℕ → Pair
 record-pair w k = record { word = w; check = k }
 
 abbrev Inv-loop : tie.InvT-loop
-Inv-loop table bytes₀ word check n total₀ k₀ bytes total k = (k ≤ n) × (length bytes ≡ length bytes₀) × Room (n - k) total × ((s : State) → Stands total₀ bytes₀ s → Left total bytes (pairsFrom (n - k) (word + k) (check + k)) (scrubWords (pairsFrom n word check) s)) × (total .words ≡ total₀ .words + k)
+Inv-loop table bytes₀ word check n total₀ k₀ bytes total k = (k ≤ n) × (length bytes ≡ length bytes₀) × Room (n - k) (asTotals total .report) × ((s : State) → Stands (asTotals total₀) bytes₀ s → Left (asTotals total) bytes (pairsFrom (n - k) (word + k) (check + k)) (scrubWords (pairsFrom n word check) s)) × (total .report .words ≡ total₀ .report .words + k)
 
 abbrev μ-loop : tie.MeasureT-loop
 μ-loop table bytes₀ word check n total₀ k₀ bytes total k = n - k
@@ -32,10 +33,10 @@ loop-holds c =
 scrub-word-requires : tie.Need-scrub-word-requires Inv-loop μ-loop
 scrub-word-requires c κs = (omega arith, omega arith, c .before .before .before .before .pre .3)
 
-count-word-requires : tie.Need-count-word-requires Inv-loop μ-loop
-count-word-requires c κs =
+add-word-requires : tie.Need-add-word-requires Inv-loop μ-loop
+add-word-requires c κs =
     let r = c .before .before .before .before .before .loop .inv .2 in
-    record { words = omega (arith, r .words); corrected = r .corrected; uncorrectable = r .uncorrectable }
+    record { words = omega (arith, r .words); counts = r .counts }
 
 loop-again : tie.Need-loop-again Inv-loop μ-loop
 loop-again c =
@@ -47,16 +48,16 @@ loop-again c =
     let n : g .n - a .loop .k ≡ suc (g .n - (a .loop .k + 1)) = omega arith in (
       omega arith,
       ap length e ∙ stored-length (classAt (a .loop .bytes) p) p (a .loop .bytes) ∙ a .loop .inv .1,
-      subst (Room (g .n - (a .loop .k + 1))) (sym (c .count-word .ensures))
-          (room-next (g .n - (a .loop .k + 1)) (a .loop .total) (asOutcome (v .scrub-word .result)) (subst (λ (m : ℕ). Room m (a .loop .total)) n (a .loop .inv .2))),
+      subst (λ (t : Totals). Room (g .n - (a .loop .k + 1)) (t .report)) (sym (c .add-word .ensures))
+          (room-next (asTotals (a .loop .total)) (g .n - (a .loop .k + 1)) (asOutcome (v .scrub-word .result)) (subst (λ (m : ℕ). Room m (asTotals (a .loop .total) .report)) n (a .loop .inv .2))),
       λ s h. let l = a .loop .inv .3 s h in
           record {
             state = scrubWord p (l .state);
-            stands = subst (λ (z : Counts). Stands z (v .scrub-word .last .1 .0) (scrubWord p (l .state))) (sym (c .count-word .ensures))
-                (one-word (a .loop .total) (a .loop .bytes) (v .scrub-word .last .1 .0) p (asOutcome (v .scrub-word .result)) (l .state) (l .stands) (v .scrub-word .ensures .0) e);
+            stands = subst (λ (z : Totals). Stands z (v .scrub-word .last .1 .0) (scrubWord p (l .state))) (sym (c .add-word .ensures))
+                (one-word (asTotals (a .loop .total)) (a .loop .bytes) (v .scrub-word .last .1 .0) p (asOutcome (v .scrub-word .result)) (l .state) (l .stands) (v .scrub-word .ensures .0) e);
             ends = sym (words-next (g .n) (g .word) (g .check) (a .loop .k) (l .state) (omega arith)) ∙ l .ends;
           },
-      ap (λ (z : Counts). z .words) (c .count-word .ensures) ∙ counted-words (a .loop .total) (asOutcome (v .scrub-word .result)) ∙ omega arith,
+      ap (λ (z : Totals). z .report .words) (c .add-word .ensures) ∙ counted-words (asTotals (a .loop .total)) (asOutcome (v .scrub-word .result)) ∙ omega arith,
     )
 
 returns : tie.Need-returns Inv-loop μ-loop
@@ -65,8 +66,8 @@ returns c =
     let g = a .before .before .args in
     let r = a .loop .inv .2 in (
       λ s h. let l = a .loop .inv .3 s h in
-          subst (Stands (a .loop .total) (a .loop .bytes)) (sym (words-done (g .n) (g .word) (g .check) (a .loop .k) (l .state) (omega arith)) ∙ l .ends) (l .stands),
-      (omega arith, record { words = omega (arith, r .words); corrected = r .corrected; uncorrectable = r .uncorrectable }),
+          subst (Stands (asTotals (a .loop .total)) (a .loop .bytes)) (sym (words-done (g .n) (g .word) (g .check) (a .loop .k) (l .state) (omega arith)) ∙ l .ends) (l .stands),
+      (omega arith, record { words = omega (arith, r .words); counts = r .counts }),
     )
 
 pub scrub-words-spec : {M : Type 1} → statement M
@@ -79,7 +80,7 @@ scrub-words-spec =
     (λ c. omega arith)
     (λ c. omega arith)
     scrub-word-requires
-    count-word-requires
+    add-word-requires
     (λ c. omega arith)
     (λ c. omega arith)
     loop-again

@@ -1,6 +1,6 @@
--- `repair::counts::visit` meets its contract. Assumes nothing.
-use Rattle.repair.proofs.counts.visit.Statement.{statement}
-use Rattle.repair.proofs.counts.visit.Tie as tie
+-- `scan::tally::visit` meets its contract. Assumes nothing.
+use Rattle.scan.proofs.tally.visit.Statement.{statement}
+use Rattle.scan.proofs.tally.visit.Tie as tie
 
 returns : tie.Need-returns
 returns c = rw (c .if1 .taken)

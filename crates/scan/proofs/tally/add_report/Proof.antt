@@ -1,0 +1,13 @@
+-- `scan::tally::add_report` meets its contract. Assumes nothing.
+use mathlib.Core.Path.{ap}
+use borrow.Author.Needs.{needs}
+use Rattle.paper.specs.Scan.{Report}
+use Rattle.scan.specs.Tally.{Totals}
+use Rattle.scan.proofs.tally.add_report.Statement.{statement}
+use Rattle.scan.proofs.tally.add_report.Tie as tie
+
+returns : tie.Need-returns
+returns c = ap (λ (r : Report). record { any = c .before .before .args .tally .any; report = r }) (c .sum .ensures)
+
+pub add-report-spec : {M : Type 1} → statement M
+add-report-spec = tie.close (tie.spec (λ c κs. search needs) returns)

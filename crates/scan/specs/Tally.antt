@@ -1,0 +1,63 @@
+-- Steps of code, for private contracts; nothing that a reader must believe. What a scan, scrub or mend has counted so far. (FORMAT 7, 8, 10)
+use mathlib.Core.Bool.{Bool, false, _||_}
+use mathlib.Core.List.{List}
+use mathlib.Core.Option.{Option}
+use Prim.Native.Nat.{ℕ, _+_, _^_, _≤_}
+use Rattle.paper.specs.Bytes.{given}
+use Rattle.paper.specs.Parity.{Class, Outcome, cleanWord, correctedWord, uncorrectableWord}
+use Rattle.paper.specs.Scan.{Report, report}
+use Rattle.paper.proofs.ScanLaw.{plus, noReport}
+use Rattle.ecc.specs.Answers.{asReport}
+use Rattle.scan.specs.declared.tally.Tally.{Tally}
+
+-- the paper's report so far, and whether any region was visited
+pub record Totals : Type 0 where
+  pub any : Bool
+  pub report : Report
+
+abbrev pub asTotals : Tally → Totals
+asTotals t = record { any = t .any; report = asReport (t .report) }
+
+abbrev pub noTotals : Totals
+noTotals = record { any = false; report = noReport }
+
+-- of a mark and the classes that were met
+abbrev pub tallied : Bool → List Class → Totals
+tallied v ks = record { any = v; report = report ks }
+
+-- a region more, which was visited or not
+abbrev pub marked : Totals → Bool → Totals
+marked t v = record { any = t .any || v; report = t .report }
+
+-- the words of a report more
+abbrev pub withReport : Totals → Report → Totals
+withReport t r = record { any = t .any; report = plus (t .report) r }
+
+-- one word, by what became of it
+abbrev pub reportOn : Outcome → Report
+reportOn (cleanWord w) = record { words = 1; corrected = 0; uncorrectable = 0 }
+reportOn (correctedWord w) = record { words = 1; corrected = 1; uncorrectable = 0 }
+reportOn uncorrectableWord = record { words = 1; corrected = 0; uncorrectable = 1 }
+
+-- one word more
+abbrev pub counted : Totals → Outcome → Totals
+counted t o = withReport t (reportOn o)
+
+-- as many words more as there are classes
+abbrev pub withClasses : Totals → List Class → Totals
+withClasses t ks = withReport t (report ks)
+
+abbrev pub reportedBy : Totals → Option Report
+reportedBy t = given (t .any) (t .report)
+
+-- ---- sums that fit
+
+-- no count is larger than that of the words
+pub record Bounded (r : Report) : Type 0 where
+  pub corrected : r .corrected ≤ r .words
+  pub uncorrectable : r .uncorrectable ≤ r .words
+
+-- room for m words more
+pub record Room (m : ℕ) (r : Report) : Type 0 where
+  pub words : r .words + m ≤ 2 ^ 60
+  pub counts : Bounded r

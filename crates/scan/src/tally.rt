@@ -1,0 +1,102 @@
+// What a scan, scrub or mend has counted so far: every counter is added to here, and nowhere else. (FORMAT 7, 8, 10)
+ghost use mathlib.Core.Path.{_≡_};
+ghost use Rattle.paper.proofs.ScanLaw.{plus};
+ghost use Rattle.ecc.specs.Answers.{asOutcome, asReport};
+ghost use Rattle.scan.specs.Answers.{asScan};
+ghost use Rattle.scan.specs.Tally.{asTotals, noTotals, marked, withReport, counted, reportOn, reportedBy, Bounded, Room};
+use super::Scan;
+use ecc::EccReport;
+use ecc::WordStatus;
+
+// The report so far, and whether any region was visited.
+pub struct Tally {
+    pub any: bool,
+    pub report: EccReport,
+}
+
+pub fn empty_tally() -> Tally
+    ensures { λ r. ⌜ asTotals r ≡ noTotals ⌝ }
+{
+    Tally {
+        any: false,
+        report: EccReport {
+            words: 0,
+            corrected: 0,
+            uncorrectable: 0,
+        },
+    }
+}
+
+// A region that is visited makes for a report, even without words.
+pub fn visit(tally: Tally, visited: bool) -> Tally
+    ensures { λ r. ⌜ asTotals r ≡ marked (asTotals tally) visited ⌝ }
+{
+    let report = tally.report;
+    Tally {
+        any: tally.any || visited,
+        report,
+    }
+}
+
+fn sum(a: EccReport, b: EccReport) -> EccReport
+    requires { ⌜ Room (b .words) (asReport a) × Bounded (asReport b) ⌝ }
+    ensures { λ r. ⌜ asReport r ≡ plus (asReport a) (asReport b) ⌝ }
+{
+    EccReport {
+        words: a.words + b.words,
+        corrected: a.corrected + b.corrected,
+        uncorrectable: a.uncorrectable + b.uncorrectable,
+    }
+}
+
+// The words of a report more.
+pub(crate) fn add_report(tally: Tally, report: EccReport) -> Tally
+    requires { ⌜ Room (report .words) (asReport (tally .report)) × Bounded (asReport report) ⌝ }
+    ensures { λ r. ⌜ asTotals r ≡ withReport (asTotals tally) (asReport report) ⌝ }
+{
+    let before = tally.report;
+    Tally {
+        any: tally.any,
+        report: sum(before, report),
+    }
+}
+
+fn report_on(status: WordStatus) -> EccReport
+    ensures { λ r. ⌜ asReport r ≡ reportOn (asOutcome status) ⌝ }
+{
+    match status {
+        WordStatus::Clean(_) => EccReport {
+            words: 1,
+            corrected: 0,
+            uncorrectable: 0,
+        },
+        WordStatus::Corrected(_) => EccReport {
+            words: 1,
+            corrected: 1,
+            uncorrectable: 0,
+        },
+        WordStatus::Uncorrectable => EccReport {
+            words: 1,
+            corrected: 0,
+            uncorrectable: 1,
+        },
+    }
+}
+
+// One word more.
+pub fn add_word(tally: Tally, status: WordStatus) -> Tally
+    requires { ⌜ Room 1 (asReport (tally .report)) ⌝ }
+    ensures { λ r. ⌜ asTotals r ≡ counted (asTotals tally) (asOutcome status) ⌝ }
+{
+    add_report(tally, report_on(status))
+}
+
+pub fn scan_result(tally: Tally) -> Scan
+    ensures { λ r. ⌜ asScan r ≡ reportedBy (asTotals tally) ⌝ }
+{
+    if !tally.any {
+        return Scan::Nothing;
+    }
+    let report = tally.report;
+    Scan::Report(report)
+}
