@@ -13,6 +13,6 @@ use Rattle.demands.specs.Damage.{Damaged}
 
 pub scrubbed : (w d : List ℕ) {n k : ℕ} {r : Option Report} {t : Bool} → Damaged n w d → length w ≤ 65536 → mend d ≡ mended w r k t
     → (scrubImage d ≡ w) × (scrubText d ≡ lines (storedLine k ∷ []))
-scrubbed w d damage short e =
+scrubbed w d {k = k} damage short e =
     let l : length d ≤ 65536 = subst (λ (m : ℕ). m ≤ 65536) (sym (damage .size)) short in
     (sym (image-short d l) ∙ ap imageOut e, sym (scrub-text d (storedLine k) (sym (ap lineOf e) ∙ line-short d l)))

@@ -16,7 +16,7 @@ use Rattle.paper.specs.Parse.{parse, accepted}
 use Rattle.paper.specs.Views.{seen, firstThat, ofKind, findRegion, bytesSpan, partOf}
 use Rattle.paper.specs.Parity.{Class, clean, decode}
 use Rattle.paper.specs.Scan.{Among, examined, isCorrected, isLost, total, classesAt, report, scan}
-use Rattle.paper.specs.Writer.{Row, flagged, rowEntries, planeEntries, rowWords, planesWords, planesBytes, planes, regions, firstWord, planDirectory, planImage, imageLength, kindAmong, image, write}
+use Rattle.paper.specs.Writer.{Row, flagged, rowEntry, rowEntries, planeEntries, rowWords, planesWords, planesBytes, planes, regions, firstWord, planDirectory, planImage, imageLength, kindAmong, image, write}
 use Rattle.paper.proofs.BytesLaw.{at-left}
 use Rattle.paper.proofs.ParityLaw.{decode-clean}
 use Rattle.paper.proofs.ScanLaw.{length-part, at-part, length-classes, scan-all}
@@ -42,7 +42,7 @@ other-row k (s ∷ before) r behind h e = other-row k before r behind (or-right 
 
 find-row : (a : ℕ) (before : List Row) (r : Row) (behind : List Row) (fs : List Entry) → RowsOK (before ++ (r ∷ behind))
     → firstThat (ofKind (r .kind)) (rowEntries a (before ++ (r ∷ behind)) ++ fs)
-    ≡ some (record { kind = r .kind; flags = r .flags; offset = a + rowWords before; words = r .words; covers = 0; spare = 0 })
+    ≡ some (rowEntry (a + rowWords before) r)
 unfolding firstThat rowEntries rowWords
 find-row a [] r behind fs o = rw (eq-eqb (r .kind) (r .kind) refl, add-zero a)
 find-row a (s ∷ before) r behind fs o =

@@ -34,8 +34,8 @@ pub fn report(image: &[u8], out: &mut [u8; 128]) -> usize
         }
         ParseResult::Parsed(header) => {
             let report = scan::verify_all(image, header);
-            let first = put_regions(out, 0, header.region_count, header.needs_scrub());
-            let second = put_line_feed(out, first);
+            let end = put_regions(out, 0, header.region_count, header.needs_scrub());
+            let second = put_line_feed(out, end);
             let end = put_ecc(out, second, report);
             put_line_feed(out, end)
         }

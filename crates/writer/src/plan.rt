@@ -17,7 +17,7 @@ use layout::WORD;
 // All flags that a row may have. A number has another bit exactly if it is above their sum.
 const ROW_FLAGS: u16 = FLAG_ENCRYPTED + FLAG_ECC_PRESENT + FLAG_OPTIONAL;
 
-// The kinds above are those of planes.
+// The highest kind that a row may have; those above are kinds of planes.
 const HIGHEST_KIND: u16 = ECC_KIND_BIT - 1;
 
 // Words with a bit for each kind that a row may have.
