@@ -15,7 +15,7 @@ use Rattle.paper.specs.Layout.{Entry, count, directory, headerLength, start}
 use Rattle.paper.specs.Views.{nth}
 use Rattle.paper.specs.Parse.{Header, parsedAs, headerOf, parse, parseVerdict}
 use Rattle.paper.specs.Mend.{InRegion, meets, meetsAny, meetsFrom, inHeader, apartVerdict, mendVerdict, Placement, placedApart, overHeader, overRegion, refusedPlacement, placementAs, placementFrom, placementOf, placement, placementVerdict}
-use Rattle.laws.specs.Placed.{isSome, OnHeader, OnRegion, Told}
+use Rattle.paper.specs.Placement.{isSome, OnHeader, OnRegion, Told}
 use Rattle.laws.proofs.VerdictLaw.{true-false}
 use Rattle.laws.proofs.MisplacedLaw.{both, shared-byte, meets-byte, one-entry, accepts-apart, names-first}
 

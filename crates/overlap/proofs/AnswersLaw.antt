@@ -16,7 +16,7 @@ use Rattle.view.specs.declared.header.ParseResult.the-variants as parsed
 use Rattle.view.specs.Answers.{asHeader, asParsed}
 use Rattle.view.proofs.AnswersLaw.{parsed-fine, parsed-count}
 use Rattle.view.proofs.SeenLaw.{seen-is}
-use Rattle.laws.specs.Placed.{Told}
+use Rattle.paper.specs.Placement.{Told}
 use Rattle.laws.proofs.PlacementLaw.{placement-verdict, placement-named}
 use Rattle.overlap.specs.declared.Placement.{Placement}
 use Rattle.overlap.specs.declared.Placement.the-variants as is

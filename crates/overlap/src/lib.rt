@@ -8,7 +8,7 @@ ghost use lib.ListN.{length, take};
 ghost use Rattle.paper.specs.Layout.{Entry, headerLength};
 ghost use Rattle.paper.specs.Views.{seen};
 ghost use Rattle.paper.specs.Mend as paper;
-ghost use Rattle.laws.specs.Placed.{isSome};
+ghost use Rattle.paper.specs.Placement.{isSome};
 ghost use Rattle.layout.specs.Regions.{asEntry};
 ghost use Rattle.view.specs.Answers.{asHeader};
 ghost use Rattle.overlap.specs.Answers.{asPlacement, overlapAs};

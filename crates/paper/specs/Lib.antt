@@ -9,4 +9,5 @@ pub mod Scan
 pub mod Scrub
 pub mod Writer
 pub mod Mend
+pub mod Placement
 pub mod Programs

@@ -87,7 +87,7 @@ checks (suc n) b = checkOf (read 8 b 0) ∷ checks n (drop 8 b)
 
 -- a plane: the check bytes, and zeros up to a whole word
 unfoldable pub planeBytes : Row → List ℕ → List ℕ
-planeBytes r b = checks (r .words) b ++ replicate (8 * planeWords r - r .words) 0
+planeBytes r b = checks (regionWords r) b ++ replicate (8 * planeWords r - regionWords r) 0
 
 unfoldable pub planesBytes : List Row → List ℕ → List ℕ
 planesBytes [] b = []
