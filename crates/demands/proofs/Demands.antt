@@ -30,7 +30,8 @@ use Rattle.paper.specs.Scan.{Report, scan}
 use Rattle.paper.specs.Scrub.{scrub}
 use Rattle.paper.specs.Writer.{planes, image, write}
 use Rattle.paper.specs.Writer as plan
-use Rattle.paper.specs.Mend.{LaidApart, FirstMisplaced, MendRule, mendBytes, changed, whole, mended, refusedMend, mend}
+use Rattle.paper.specs.Mend.{LaidApart, FirstMisplaced, MendRule, mendBytes, changed, whole, mended, refusedMend, mendVerdict, mend, placement, placementVerdict}
+use Rattle.paper.specs.Placement.{TrueOf}
 use Rattle.paper.specs.Programs.{storedLine, lines, scrubImage, scrubText}
 use Rattle.paper.proofs.FigureTable as figure
 use Rattle.paper.proofs.LayoutLaw as layout
@@ -38,6 +39,7 @@ use Rattle.paper.proofs.CrcDivision as crc
 use Rattle.paper.proofs.CrcUnique as crc-unique
 use Rattle.paper.proofs.ParityLaw as parity
 use Rattle.laws.proofs.MendLaw.{one-result}
+use Rattle.laws.proofs.PlacementLaw as placed
 use Rattle.error.specs.Refused.{numberOf, detailOf}
 use Rattle.error.specs.declared.Refusal.{Refusal}
 use Rattle.error.proofs.OneAnswer.{one-refusal}
@@ -143,6 +145,10 @@ pub mend-refuses-exactly : (x : List ℕ)
     × (parse x ≡ accepted (headerOf x) → (LaidApart (count x) (directory x) → ⊥) → (i : ℕ) × (mend x ≡ refusedMend overlappingRegions i))
     × (parse x ≡ accepted (headerOf x) → LaidApart (count x) (directory x) → mend x ≡ mended (mendBytes x) (scan x) (changed x (mendBytes x)) (whole x))
 mend-refuses-exactly x = (as-parse x, only-overlap x, overlap-always x, else-mends x)
+
+-- What the check behind refusal 12 names is so: the first misplaced entry with the header that it starts inside, or else with the lowest earlier entry that it shares a byte with.
+pub placement-named : (x : List ℕ) → (placementVerdict (placement x) ≡ mendVerdict x) × TrueOf x (placement x)
+placement-named x = (placed.placement-verdict x, placed.placement-named x)
 
 -- "Writer equals the format's rules": its definition is the image as the rules lay it out, and what it makes reads back. It parses; each row's region
 -- hands back its payload; the scan is clean.

@@ -15,7 +15,7 @@ use Rattle.paper.specs.Layout.{Entry, count, directory, headerLength, start}
 use Rattle.paper.specs.Views.{nth}
 use Rattle.paper.specs.Parse.{Header, parsedAs, headerOf, parse, parseVerdict}
 use Rattle.paper.specs.Mend.{InRegion, meets, meetsAny, meetsFrom, inHeader, apartVerdict, mendVerdict, Placement, placedApart, overHeader, overRegion, refusedPlacement, placementAs, placementFrom, placementOf, placement, placementVerdict}
-use Rattle.paper.specs.Placement.{isSome, OnHeader, OnRegion, Told}
+use Rattle.paper.specs.Placement.{isSome, OnHeader, OnRegion, TrueOf}
 use Rattle.laws.proofs.VerdictLaw.{true-false}
 use Rattle.laws.proofs.MisplacedLaw.{both, shared-byte, meets-byte, one-entry, accepts-apart, names-first}
 
@@ -186,16 +186,16 @@ named-from h earlier (e ∷ es) =
     go false none p q r = r
 
 -- the entry that is named is the first that is misplaced
-pub placement-named : (x : List ℕ) → Told x (placement x)
+pub placement-named : (x : List ℕ) → TrueOf x (placement x)
 unfolding placement parse headerOf
 placement-named x = go (parseVerdict x) refl
   where
-    told : parseVerdict x ≡ fine → (p : Placement) → Named (headerOf x) (directory x) p → placementVerdict p ≡ apartVerdict (count x) 0 [] (directory x) → Told x p
+    told : parseVerdict x ≡ fine → (p : Placement) → Named (headerOf x) (directory x) p → placementVerdict p ≡ apartVerdict (count x) 0 [] (directory x) → TrueOf x p
     told v (placedApart g) a w = (rw (v, a), accepts-apart (count x) (directory x) (sym w))
     told v (overHeader i) a w = (v, names-first (count x) (directory x) overlappingRegions i (sym w) .1, a)
     told v (overRegion i j) a w = (v, names-first (count x) (directory x) overlappingRegions i (sym w) .1, a)
     told v (refusedPlacement n d) a w = absurd a
 
-    go : (v : Verdict) → parseVerdict x ≡ v → Told x (placementOf (parsedAs v (headerOf x)) (directory x))
+    go : (v : Verdict) → parseVerdict x ≡ v → TrueOf x (placementOf (parsedAs v (headerOf x)) (directory x))
     go fine v = told v (placementFrom (headerOf x) 0 [] (directory x)) (named-from (headerOf x) [] (directory x)) (verdict-all x)
     go (refuse n d) v = rw v

@@ -16,7 +16,7 @@ use Rattle.view.specs.declared.header.ParseResult.the-variants as parsed
 use Rattle.view.specs.Answers.{asHeader, asParsed}
 use Rattle.view.proofs.AnswersLaw.{parsed-fine, parsed-count}
 use Rattle.view.proofs.SeenLaw.{seen-is}
-use Rattle.paper.specs.Placement.{Told}
+use Rattle.paper.specs.Placement.{TrueOf}
 use Rattle.laws.proofs.PlacementLaw.{placement-verdict, placement-named}
 use Rattle.overlap.specs.declared.Placement.{Placement}
 use Rattle.overlap.specs.declared.Placement.the-variants as is
@@ -46,4 +46,4 @@ module _ (x : List ℕ) (r : Placement) (e : asPlacement r ≡ placement x) wher
   placed-verdict = sym (ap placementVerdict e ∙ placement-verdict x)
 
   pub placed-parse : (h : Header) → r ≡ is.Apart h → accepted (asHeader h) ≡ parse x
-  placed-parse h f = sym (subst (Told x) (sym (ap asPlacement (sym f) ∙ e)) (placement-named x) .0)
+  placed-parse h f = sym (subst (TrueOf x) (sym (ap asPlacement (sym f) ∙ e)) (placement-named x) .0)

@@ -5,7 +5,7 @@ ghost use mathlib.Core.List.{List, []};
 ghost use Prim.Native.Nat.{_+_, _^_, _<_, _≤_, max};
 ghost use lib.Dec.{leb};
 ghost use lib.ListN.{length, take};
-ghost use Rattle.paper.specs.Layout.{Entry, headerLength};
+ghost use Rattle.paper.specs.Layout.{Entry};
 ghost use Rattle.paper.specs.Views.{seen};
 ghost use Rattle.paper.specs.Mend as paper;
 ghost use Rattle.paper.specs.Placement.{isSome};
@@ -14,10 +14,8 @@ ghost use Rattle.view.specs.Answers.{asHeader};
 ghost use Rattle.overlap.specs.Answers.{asPlacement, overlapAs};
 ghost use Rattle.overlap.specs.Spans.{lastWord, overlapsFrom, Spans};
 use error::Refusal;
-use layout::COPIES;
-use layout::DIR_ENTRY_BYTES;
-use layout::DIRECTORY_OFFSET;
 use layout::Region;
+use layout::header_length;
 use view::Header;
 use view::ParseResult;
 use view::RegionAt;
@@ -179,13 +177,6 @@ fn end_word(region: Region) -> usize
     ensures { λ r. ⌜ (r ≡ region .«word_offset» + region .«word_length») × (region .«word_offset» < 2 ^ 32) ⌝ }
 {
     (region.word_offset as usize) + (region.word_length as usize)
-}
-
-// All copies of the prologue and of a directory of n entries.
-fn header_length(n: u16) -> usize
-    ensures { λ r. ⌜ r ≡ headerLength n ⌝ }
-{
-    DIRECTORY_OFFSET + COPIES * DIR_ENTRY_BYTES * (n as usize)
 }
 
 fn max(a: usize, b: usize) -> usize

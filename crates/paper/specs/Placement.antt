@@ -37,8 +37,8 @@ pub record OnRegion (n : ℕ) (es : List Entry) (i j : ℕ) : Type 0 where
 
 -- ---- of an image
 
-abbrev pub Told : List ℕ → Placement → Type 0
-Told x (placedApart h) = (parse x ≡ accepted h) × LaidApart (count x) (directory x)
-Told x (overHeader i) = (parseVerdict x ≡ fine) × FirstMisplaced (count x) (directory x) i × OnHeader (count x) (directory x) i
-Told x (overRegion i j) = (parseVerdict x ≡ fine) × FirstMisplaced (count x) (directory x) i × OnRegion (count x) (directory x) i j
-Told x (refusedPlacement n d) = parse x ≡ refused n d
+abbrev pub TrueOf : List ℕ → Placement → Type 0
+TrueOf x (placedApart h) = (parse x ≡ accepted h) × LaidApart (count x) (directory x)
+TrueOf x (overHeader i) = (parseVerdict x ≡ fine) × FirstMisplaced (count x) (directory x) i × OnHeader (count x) (directory x) i
+TrueOf x (overRegion i j) = (parseVerdict x ≡ fine) × FirstMisplaced (count x) (directory x) i × OnRegion (count x) (directory x) i j
+TrueOf x (refusedPlacement n d) = parse x ≡ refused n d
