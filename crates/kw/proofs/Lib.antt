@@ -1,2 +1,2 @@
-pub mod TrueOf
+pub mod Told
 pub mod OneAnswer

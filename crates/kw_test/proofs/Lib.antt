@@ -1,3 +1,3 @@
 pub mod Joined
-pub mod TrueOf
+pub mod Told
 pub mod OneAnswer

@@ -5,7 +5,7 @@ use Prim.Native.Nat.{ℕ}
 use Rattle.bits.specs.Bit.{num}
 use Rattle.view.specs.Answers.{asParsed}
 use Rattle.kw.specs.Numbers.{refusalNumber, parseNumbers}
-use Rattle.kw.proofs.TrueOf.{told, yes-no}
+use Rattle.kw.proofs.Told.{told, yes-no}
 use borrow.Author.Needs.{needs}
 use Rattle.kw.proofs.kw_parse.Statement.{statement}
 use Rattle.kw.proofs.kw_parse.Tie as tie

@@ -11,7 +11,7 @@ use Rattle.view.specs.Answers.{asParsed}
 use Rattle.view.proofs.AnswersLaw.{parsed-fine, parsed-count}
 use Rattle.kw.specs.Numbers.{refusalNumber, reportNumbers, scanNumbers}
 use Rattle.repair.proofs.MendingLaw.{scan-is}
-use Rattle.kw.proofs.TrueOf.{told}
+use Rattle.kw.proofs.Told.{told}
 use borrow.Author.Needs.{needs}
 use Rattle.kw.proofs.kw_scan.Statement.{statement}
 use Rattle.kw.proofs.kw_scan.Tie as tie

@@ -9,7 +9,7 @@ use Rattle.bits.specs.Bit.{num}
 use Rattle.paper.specs.Scan.{Report}
 use Rattle.scan.specs.Answers.{asScan}
 use Rattle.kw.specs.Numbers.{reportNumbers}
-use Rattle.kw.proofs.TrueOf.{yes-no}
+use Rattle.kw.proofs.Told.{yes-no}
 use Rattle.kw.proofs.mending_numbers.Statement.{statement}
 use Rattle.kw.proofs.mending_numbers.Tie as tie
 

@@ -2,7 +2,7 @@
 use mathlib.Core.Path.{refl}
 use Rattle.scan.specs.Answers.{asScan}
 use Rattle.kw.specs.Numbers.{reportNumbers}
-use Rattle.kw.proofs.TrueOf.{told}
+use Rattle.kw.proofs.Told.{told}
 use borrow.Author.Needs.{needs}
 use Rattle.kw.proofs.report_numbers.Statement.{statement}
 use Rattle.kw.proofs.report_numbers.Tie as tie

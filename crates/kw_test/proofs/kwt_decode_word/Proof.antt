@@ -2,7 +2,7 @@
 use borrow.Author.Needs.{needs}
 use Rattle.ecc.specs.Answers.{asOutcome}
 use Rattle.kw_test.specs.Numbers.{outcomeNumbers}
-use Rattle.kw_test.proofs.TrueOf.{told-as}
+use Rattle.kw_test.proofs.Told.{told-as}
 use Rattle.kw_test.proofs.kwt_decode_word.Statement.{statement}
 use Rattle.kw_test.proofs.kwt_decode_word.Tie as tie
 

@@ -1,6 +1,6 @@
 -- `kw_test::kwt_region` meets its contract. Assumes nothing.
 use borrow.Author.Needs.{needs}
-use Rattle.kw_test.proofs.TrueOf.{counted}
+use Rattle.kw_test.proofs.Told.{counted}
 use Rattle.kw_test.proofs.kwt_region.Statement.{statement}
 use Rattle.kw_test.proofs.kwt_region.Tie as tie
 

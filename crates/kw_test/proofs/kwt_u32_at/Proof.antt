@@ -1,7 +1,7 @@
 -- `kw_test::kwt_u32_at` meets its contract. Assumes nothing.
 use borrow.Author.Needs.{needs}
 use Rattle.scalar.specs.Answers.{asPaper32}
-use Rattle.kw_test.proofs.TrueOf.{told}
+use Rattle.kw_test.proofs.Told.{told}
 use Rattle.kw_test.proofs.kwt_u32_at.Statement.{statement}
 use Rattle.kw_test.proofs.kwt_u32_at.Tie as tie
 

@@ -4,7 +4,7 @@ use borrow.Author.Needs.{needs}
 use Rattle.ecc.specs.declared.PlaneWord.the-variants.{Word}
 use Rattle.ecc.specs.Answers.{asWord}
 use Rattle.kw_test.specs.Numbers.{wordNumbers}
-use Rattle.kw_test.proofs.TrueOf.{told-as}
+use Rattle.kw_test.proofs.Told.{told-as}
 use Rattle.kw_test.proofs.word_numbers.Statement.{statement}
 use Rattle.kw_test.proofs.word_numbers.Tie as tie
 

@@ -4,7 +4,7 @@ use mathlib.Core.List.{[], _∷_}
 use Prim.Native.Nat.{ℕ}
 use Rattle.tables.specs.Answers.{asSpan}
 use Rattle.kw_test.specs.Reader.{spanNumbers}
-use Rattle.kw_test.proofs.TrueOf.{told-as}
+use Rattle.kw_test.proofs.Told.{told-as}
 use borrow.Author.Needs.{needs}
 use Rattle.kw_test.proofs.parts.span_numbers.Statement.{statement}
 use Rattle.kw_test.proofs.parts.span_numbers.Tie as tie

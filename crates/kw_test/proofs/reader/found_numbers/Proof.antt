@@ -1,7 +1,7 @@
 -- `kw_test::reader::found_numbers` meets its contract. Assumes nothing.
 use mathlib.Core.Path.{refl}
 use Rattle.kw_test.specs.Reader.{foundNumbers}
-use Rattle.kw_test.proofs.TrueOf.{told-as}
+use Rattle.kw_test.proofs.Told.{told-as}
 use borrow.Author.Needs.{needs}
 use Rattle.kw_test.proofs.reader.found_numbers.Statement.{statement}
 use Rattle.kw_test.proofs.reader.found_numbers.Tie as tie

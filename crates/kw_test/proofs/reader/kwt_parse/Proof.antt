@@ -4,7 +4,7 @@ use mathlib.Core.List.{[], _∷_}
 use Prim.Native.Nat.{ℕ}
 use Rattle.view.specs.Answers.{asParsed}
 use Rattle.kw_test.specs.Reader.{parsedNumbers}
-use Rattle.kw_test.proofs.TrueOf.{told-as, counted}
+use Rattle.kw_test.proofs.Told.{told-as, counted}
 use borrow.Author.Needs.{needs}
 use Rattle.kw_test.proofs.reader.kwt_parse.Statement.{statement}
 use Rattle.kw_test.proofs.reader.kwt_parse.Tie as tie

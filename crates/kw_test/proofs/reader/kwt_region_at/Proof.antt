@@ -3,7 +3,7 @@ use mathlib.Core.Path.{ap, _∙_}
 use denote.Ref.{now}
 use Rattle.paper.specs.Views.{regionAt}
 use Rattle.kw_test.specs.Reader.{foundNumbers}
-use Rattle.kw_test.proofs.TrueOf.{found-entry}
+use Rattle.kw_test.proofs.Told.{found-entry}
 use borrow.Author.Needs.{needs}
 use Rattle.kw_test.proofs.reader.kwt_region_at.Statement.{statement}
 use Rattle.kw_test.proofs.reader.kwt_region_at.Tie as tie

@@ -2,7 +2,7 @@
 use mathlib.Core.Path.{refl}
 use Rattle.tables.specs.Answers.{asPlace}
 use Rattle.kw_test.specs.Reader.{placeNumbers}
-use Rattle.kw_test.proofs.TrueOf.{told-as}
+use Rattle.kw_test.proofs.Told.{told-as}
 use borrow.Author.Needs.{needs}
 use Rattle.kw_test.proofs.reader.place_numbers.Statement.{statement}
 use Rattle.kw_test.proofs.reader.place_numbers.Tie as tie

@@ -2,7 +2,7 @@
 use mathlib.Core.Path.{refl}
 use Rattle.scan.specs.Answers.{asScan}
 use Rattle.kw_test.specs.Reader.{scanAnswer}
-use Rattle.kw_test.proofs.TrueOf.{told-as}
+use Rattle.kw_test.proofs.Told.{told-as}
 use borrow.Author.Needs.{needs}
 use Rattle.kw_test.proofs.scans.scan_numbers.Statement.{statement}
 use Rattle.kw_test.proofs.scans.scan_numbers.Tie as tie

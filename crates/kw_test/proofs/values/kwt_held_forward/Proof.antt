@@ -1,5 +1,5 @@
 -- `kw_test::parts::kwt_held_forward` meets its contract. Assumes nothing.
-use Rattle.kw_test.proofs.TrueOf.{counted}
+use Rattle.kw_test.proofs.Told.{counted}
 use borrow.Author.Needs.{needs}
 use Rattle.kw_test.proofs.values.kwt_held_forward.Statement.{statement}
 use Rattle.kw_test.proofs.values.kwt_held_forward.Tie as tie
