@@ -14,7 +14,7 @@ use Rattle.paper.specs.Bytes.{at, wordAt, Bytes}
 use Rattle.paper.specs.Layout.{maj3, voted, prologue, count, headerLength, directoryBytesOf, directoryBytes}
 use Rattle.paper.specs.Parity.{beyond, checkOf, flipWord, flipCheck, decode, fixedWord, fixedCheck}
 use Rattle.paper.specs.Scan.{Among, examined, isLost}
-use Rattle.paper.specs.Mend.{Mended}
+use Rattle.paper.specs.Mend.{MendRule}
 use Rattle.paper.proofs.BytesLaw.{read-lt}
 use Rattle.paper.proofs.LayoutLaw.{vote-is-majority, maj3-low, length-voted, at-voted, length-prologue, length-directoryBytes}
 use Rattle.paper.proofs.ParityLaw.{decode-clean, single-flip, double-flip, flip-flip}
@@ -101,7 +101,7 @@ module _ (most : ℕ) (w d : List ℕ) (g : InOrder w) (a : Damaged most w d) wh
       go l (inl r) = inl (r .0, e ∙ r .1, r .2)
       go l (inr r) = inr (let z = r .0 in omega arith, r .1)
 
-  module _ (y : List ℕ) (r : Mended d y) (h : most ≤ 2) where
+  module _ (y : List ℕ) (r : MendRule d y) (h : most ≤ 2) where
     -- mended, every byte outside the words that are beyond repair and their check bytes is w's
     pub outside : (p : ℕ)
         → ((q c : ℕ) → Protected w q c → 2 ≤ most → Lost d q c → (q ≡ p / 8 → ⊥) × (c ≡ p → ⊥)) → at y p ≡ at w p

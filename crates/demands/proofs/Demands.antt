@@ -11,7 +11,7 @@
 -- The rule behind them: repair only what two header copies outvote or the parity says is one flipped bit, touch nothing else, and check the image afresh before it is loaded.
 use mathlib.Core.Path.{_≡_, ap₂}
 use mathlib.Core.Bool.{Bool, true, false}
-use mathlib.Core.List.{List}
+use mathlib.Core.List.{List, [], _∷_}
 use mathlib.Core.Logic.{_⊎_}
 use mathlib.Core.Option.{Option, none}
 use Prim.Native.Nat.{ℕ, _+_, _*_, _/_, _^_, _≤_, _<_}
@@ -30,8 +30,8 @@ use Rattle.paper.specs.Scan.{Report, scan}
 use Rattle.paper.specs.Scrub.{scrub}
 use Rattle.paper.specs.Writer.{planes, image, write}
 use Rattle.paper.specs.Writer as plan
-use Rattle.paper.specs.Mend.{LaidApart, FirstMisplaced, Mended, mendBytes, changed, wholeOf, mended, refusedMend, mend}
-use Rattle.paper.specs.Programs.{storedLine, scrubImage, scrubLine}
+use Rattle.paper.specs.Mend.{LaidApart, FirstMisplaced, MendRule, mendBytes, changed, whole, mended, refusedMend, mend}
+use Rattle.paper.specs.Programs.{storedLine, lines, scrubImage, scrubText}
 use Rattle.paper.proofs.FigureTable as figure
 use Rattle.paper.proofs.LayoutLaw as layout
 use Rattle.paper.proofs.CrcDivision as crc
@@ -44,12 +44,12 @@ use Rattle.error.proofs.OneAnswer.{one-refusal}
 use Rattle.scan.specs.declared.Scan.{Scan}
 use Rattle.scan.specs.declared.Scan.the-variants as scan-says
 use Rattle.writer.specs.declared.plan.Row.{Row}
-use Rattle.writer.specs.declared.room.WriteResult.the-variants as write-says
+use Rattle.writer.specs.declared.sizes.WriteResult.the-variants as write-says
 use Rattle.repair.specs.declared.mending.MendResult.the-variants as mend-says
 use Rattle.demands.specs.Damage.{Protected, bitsOff, Damaged, Touched, Lost, uncorrected, ReadsBack}
 use Rattle.demands.specs.Runs.{Writes, MendsTo, ScrubsTo}
 use Rattle.demands.specs.ScrubSteps.{Changes}
-use Rattle.demands.proofs.Answer.{mends}
+use Rattle.demands.proofs.MendParts.{mends}
 use Rattle.demands.proofs.Command.{scrubbed}
 use Rattle.demands.proofs.DamageLaw.{voted-right}
 use Rattle.demands.proofs.Refuses.{as-parse, only-overlap, overlap-always, else-mends}
@@ -125,14 +125,14 @@ vote-is-majority = layout.vote-is-majority
 -- "Mend equals the format's rules." Where it mends, what it leaves meets the rule, and one list alone does; the report is scrub's of the same image,
 -- the count that of the positions that changed, and whole said exactly if there is a report with no uncorrectable word.
 pub mend-is-the-rule : (x y : List ℕ) (r : Option Report) (k : ℕ) (t : Bool) → Bytes x → mend x ≡ mended y r k t
-    → Mended x y
-    × ((z : List ℕ) → Mended x z → z ≡ y)
+    → MendRule x y
+    × ((z : List ℕ) → MendRule x z → z ≡ y)
     × (scrub x .report ≡ r)
     × (changed x y ≡ k)
-    × (wholeOf r ≡ t)
+    × (whole x ≡ t)
 mend-is-the-rule x y r k t b h =
     let m = mends x y r k t b h in
-    (m .rule, λ z q. one-result x z y q (m .rule), scrub-same x y r k t b h .0, m .stored, m .whole)
+    (m .rule, λ z q. one-result x z y q (m .rule), scrub-same x y r k t b h .0, m .stored, m .isWhole)
 
 -- It refuses as parse does; then with 12 exactly if the image isn't laid apart, and names the first non-empty entry that starts inside the header
 -- or shares a byte with an earlier non-empty entry; it mends every other image.
@@ -141,7 +141,7 @@ pub mend-refuses-exactly : (x : List ℕ)
     × ((i : ℕ) → mend x ≡ refusedMend overlappingRegions i
     → (parse x ≡ accepted (headerOf x)) × (LaidApart (count x) (directory x) → ⊥) × FirstMisplaced (count x) (directory x) i)
     × (parse x ≡ accepted (headerOf x) → (LaidApart (count x) (directory x) → ⊥) → (i : ℕ) × (mend x ≡ refusedMend overlappingRegions i))
-    × (parse x ≡ accepted (headerOf x) → LaidApart (count x) (directory x) → mend x ≡ mended (mendBytes x) (scan x) (changed x (mendBytes x)) (wholeOf (scan x)))
+    × (parse x ≡ accepted (headerOf x) → LaidApart (count x) (directory x) → mend x ≡ mended (mendBytes x) (scan x) (changed x (mendBytes x)) (whole x))
 mend-refuses-exactly x = (as-parse x, only-overlap x, overlap-always x, else-mends x)
 
 -- "Writer equals the format's rules": its definition is the image as the rules lay it out, and what it makes reads back. It parses; each row's region
@@ -167,7 +167,7 @@ restores rs payload room w d written bytes damage = restored rs payload room w w
 -- The same of the command: an image of at most 65,536 bytes, so damaged, comes out of scrub as the writer's exact bytes, with the number of bytes that differed.
 pub command-restores : (rs : List plan.Row) (payload : List ℕ) (room : ℕ) (w d : List ℕ)
     → write rs payload room ≡ image w → Bytes payload → Damaged 1 w d → length w ≤ 65536
-    → (scrubImage d ≡ w) × (scrubLine d ≡ storedLine (changed d w))
+    → (scrubImage d ≡ w) × (scrubText d ≡ lines (storedLine (changed d w) ∷ []))
 command-restores rs payload room w d written bytes damage short = scrubbed w d damage short (restores rs payload room w d written bytes damage)
 
 -- "Mending twice is mending once": any image x that mend accepts. It leaves bytes y, with a report r, k bytes changed, and whole or not. The second time
@@ -220,8 +220,8 @@ fresh-check = fresh
 pub whole-means-whole : (rs : List plan.Row) (payload : List ℕ) (room : ℕ) (w d : List ℕ)
     → write rs payload room ≡ image w → Bytes payload → Damaged 2 w d
     → (y : List ℕ)
-    × (mend d ≡ mended y (scan d) (changed d y) (wholeOf (scan d)))
-    × (wholeOf (scan d) ≡ true → y ≡ w)
+    × (mend d ≡ mended y (scan d) (changed d y) (whole d))
+    × (whole d ≡ true → y ≡ w)
     × ((q c : ℕ) → Protected w q c → Lost d q c → (wordAt y q ≡ wordAt d q) × (at y c ≡ at d c))
     × ((p : ℕ) → ((q c : ℕ) → Protected w q c → Lost d q c → (q ≡ p / 8 → ⊥) × (c ≡ p → ⊥)) → at y p ≡ at w p)
 whole-means-whole rs payload room w d written bytes damage = whole-or-kept rs payload room w written bytes d damage

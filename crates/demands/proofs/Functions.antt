@@ -1,7 +1,7 @@
 -- The demands of the functions themselves: `writer::write`, `repair::mend` and `lines::scrub`, through their promises (specs/Runs.antt). Assumes nothing.
 use mathlib.Core.Path.{_≡_, sym, ap, _∙_}
 use mathlib.Core.Bool.{true, false}
-use mathlib.Core.List.{List}
+use mathlib.Core.List.{List, [], _∷_}
 use Prim.Native.Nat.{ℕ, _/_, _≤_, _<_}
 use lib.Dec.{ltb}
 use lib.ListN.{length, take}
@@ -11,10 +11,10 @@ use Rattle.paper.specs.Parse.{headerOf, parse, accepted}
 use Rattle.paper.specs.Scan.{scan}
 use Rattle.paper.specs.Scrub.{scrub}
 use Rattle.paper.specs.Writer.{planes}
-use Rattle.paper.specs.Programs.{storedLine}
+use Rattle.paper.specs.Programs.{storedLine, lines}
 use Rattle.lines.specs.declared.Printed.{Printed}
 use lib.Seq.{sets}
-use Rattle.paper.specs.Mend.{LaidApart, FirstMisplaced, Mended, changed, wholeOf, Mending, mended, mend}
+use Rattle.paper.specs.Mend.{LaidApart, FirstMisplaced, MendRule, changed, whole, mended, mend}
 use Rattle.error.specs.declared.Refusal.the-variants.{OverlappingRegions}
 use Rattle.repair.proofs.OneAnswer.{one-mend}
 use Rattle.scan.specs.Answers.{asScan}
@@ -22,7 +22,7 @@ use Rattle.scan.specs.declared.Scan.{Scan}
 use Rattle.scan.proofs.OneAnswer.{one-scan}
 use Rattle.writer.specs.Answers.{asPlan}
 use Rattle.writer.specs.declared.plan.Row.{Row}
-use Rattle.writer.specs.declared.room.WriteResult.the-variants.{Written}
+use Rattle.writer.specs.declared.sizes.WriteResult.the-variants.{Written}
 use Rattle.repair.specs.Answers.{asMended}
 use Rattle.repair.specs.declared.mending.Mending as answer
 use Rattle.repair.specs.declared.mending.MendResult.{MendResult}
@@ -46,7 +46,7 @@ module _ (rows : List Row) (payload out : List ℕ) (n : ℕ) (after : List ℕ)
 
   -- The command writes the writer's exact bytes, and says how many differed.
   pub command-restores : (d buffer : List ℕ) → Damaged 1 (take n after) d → length (take n after) ≤ 65536 → (r : Printed) (y line : List ℕ) → Prints d buffer r y line
-      → (take (r .image) y ≡ take n after) × (line ≡ sets buffer 0 (storedLine (changed d (take n after))))
+      → (take (r .image) y ≡ take n after) × (line ≡ sets buffer 0 (lines (storedLine (changed d (take n after)) ∷ [])))
   command-restores d buffer damage short r y line scrubs =
       let o = demands.command-restores (asPlan rows) payload (length out) (take n after) d (run.written rows payload out n after wrote) bytes damage short in
       (scrubs .written ∙ o .0, scrubs .said ∙ ap (sets buffer 0) (o .1))
@@ -61,15 +61,15 @@ module _ (rows : List Row) (payload out : List ℕ) (n : ℕ) (after : List ℕ)
 
   -- With up to two bits wrong in each word: whole means the writer's bytes, and a word that is lost is as given.
   pub whole-means-whole : (d : List ℕ) → Damaged 2 (take n after) d → (r : MendResult) (y : List ℕ) → MendsTo d r y
-      → (asMended r y ≡ mended y (scan d) (changed d y) (wholeOf (scan d)))
-      × (wholeOf (scan d) ≡ true → y ≡ take n after)
+      → (asMended r y ≡ mended y (scan d) (changed d y) (whole d))
+      × (whole d ≡ true → y ≡ take n after)
       × ((q c : ℕ) → Protected (take n after) q c → Lost d q c → (wordAt y q ≡ wordAt d q) × (at y c ≡ at d c))
       × ((p : ℕ) → ((q c : ℕ) → Protected (take n after) q c → Lost d q c → (q ≡ p / 8 → ⊥) × (c ≡ p → ⊥)) → at y p ≡ at (take n after) p)
   whole-means-whole d damage r y mends =
       let o = demands.whole-means-whole (asPlan rows) payload (length out) (take n after) d (run.written rows payload out n after wrote) bytes damage in
       let m = run.mends-to d r y _ mends (o .1) in
       let e = m .0 in (
-        m .1 ∙ ap (λ (z : List ℕ). mended z (scan d) (changed d z) (wholeOf (scan d))) (sym e),
+        m .1 ∙ ap (λ (z : List ℕ). mended z (scan d) (changed d z) (whole d)) (sym e),
         λ t. e ∙ o .2 t,
         λ q c p l. (ap (λ (z : List ℕ). wordAt z q) e ∙ o .3 q c p l .0, ap (λ (z : List ℕ). at z c) e ∙ o .3 q c p l .1),
         λ p f. ap (λ (z : List ℕ). at z p) e ∙ o .4 p f,
@@ -100,11 +100,11 @@ module _ (x : List ℕ) (bytes : Bytes x) (m : answer.Mending) (y : List ℕ) (m
       run.mends-to y r z _ again (demands.settles x y (asScan (m .report)) (m .stored) (m .whole) bytes (run.mended x m y mends))
 
   -- What is left meets the rule, and nothing else does; the answer is scrub's report, the number of bytes that changed, and whether all is whole.
-  pub mend-is-the-rule : Mended x y
-      × ((z : List ℕ) → Mended x z → z ≡ y)
+  pub mend-is-the-rule : MendRule x y
+      × ((z : List ℕ) → MendRule x z → z ≡ y)
       × (scrub x .report ≡ asScan (m .report))
       × (changed x y ≡ m .stored)
-      × (wholeOf (asScan (m .report)) ≡ m .whole)
+      × (whole x ≡ m .whole)
   mend-is-the-rule = demands.mend-is-the-rule x y (asScan (m .report)) (m .stored) (m .whole) bytes (run.mended x m y mends)
 
   -- A byte that changed was outvoted, or the parity says that it holds the one flipped bit of its word.

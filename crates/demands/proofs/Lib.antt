@@ -1,7 +1,7 @@
 pub mod Command
 pub mod Demands
 pub mod Distance
-pub mod Answer
+pub mod MendParts
 pub mod DamageLaw
 pub mod Restores
 pub mod Settles

@@ -27,7 +27,7 @@ use Rattle.laws.proofs.PlanPairs.{pairsPlan, plan-among}
 use Rattle.laws.proofs.MendLaw.{InOrder}
 use Rattle.laws.proofs.ImageLaw.{written-length, count-is, directory-back, examined-back, any-back, in-order, in-body, parse-fine}
 use Rattle.demands.specs.Damage.{entryOfRow, ReadsBack}
-use Rattle.demands.proofs.Answer.{total-zero}
+use Rattle.demands.proofs.MendParts.{total-zero}
 use Rattle.demands.proofs.Settles.{parses}
 
 -- ---- a row's region is found by its kind

@@ -11,7 +11,7 @@ use Rattle.paper.specs.Crc.{crc32}
 use Rattle.paper.specs.Layout.{prologue, magicIn, markerIn, versionIn, countIn, checksumIn, count, headerLength, directory, Entry, end}
 use Rattle.paper.specs.Parse.{prologueVerdict, among, entriesVerdict, headerVerdict, parseVerdict, Header, headerOf, accepted, refused, parsedAs, parse}
 use Rattle.paper.specs.Scan.{scan}
-use Rattle.paper.specs.Mend.{LaidApart, FirstMisplaced, apartVerdict, mendVerdict, mendBytes, changed, wholeOf, mended, refusedMend, mendAs, mend}
+use Rattle.paper.specs.Mend.{LaidApart, FirstMisplaced, apartVerdict, mendVerdict, mendBytes, changed, whole, mended, refusedMend, mendAs, mend}
 use Rattle.laws.proofs.MisplacedLaw.{placed, accepts-apart, names-first}
 
 -- ---- parse has no number from 12 on
@@ -112,9 +112,9 @@ module _ (x : List ℕ) where
       go (refuse k d) b =
           (d, mend-by fine (refuse k d) (parsed (headerOf x) p) b ∙ ap (λ (m : ℕ). refusedMend m d) (names-first (count x) (directory x) k d b .0))
 
-  pub else-mends : parse x ≡ accepted (headerOf x) → Apart → mend x ≡ mended (mendBytes x) (scan x) (changed x (mendBytes x)) (wholeOf (scan x))
+  pub else-mends : parse x ≡ accepted (headerOf x) → Apart → mend x ≡ mended (mendBytes x) (scan x) (changed x (mendBytes x)) (whole x)
   else-mends p r = go (apartVerdict (count x) 0 [] (directory x)) refl
     where
-      go : (v : Verdict) → apartVerdict (count x) 0 [] (directory x) ≡ v → mend x ≡ mended (mendBytes x) (scan x) (changed x (mendBytes x)) (wholeOf (scan x))
+      go : (v : Verdict) → apartVerdict (count x) 0 [] (directory x) ≡ v → mend x ≡ mended (mendBytes x) (scan x) (changed x (mendBytes x)) (whole x)
       go fine b = mend-by fine fine (parsed (headerOf x) p) b
       go (refuse k d) b = absurd (placed (count x) (directory x) r d (names-first (count x) (directory x) k d b .1 .here))

@@ -15,7 +15,7 @@ use Rattle.paper.specs.Layout.{headerLength, directory, Entry}
 use Rattle.paper.specs.Parity.{Class, decode, wordAfter, checkAfter, fixedWord, fixedCheck}
 use Rattle.paper.specs.Scan.{visits, Among, examined, isLost, total, classesAt, report, scan, Report}
 use Rattle.paper.specs.Writer.{Row, flagged, rowEntries, planeEntry, planeEntries, planeWords, rowWords, planesBytes, planes, regions, firstWord, planDirectory, planImage, image, write}
-use Rattle.paper.specs.Mend.{mendVerdict, Mended, mendBytes, changed, wholeOf, mended, mend}
+use Rattle.paper.specs.Mend.{mendVerdict, MendRule, mendBytes, changed, noneUncorrectable, whole, mended, mend}
 use Rattle.paper.proofs.BytesLaw.{at-left}
 use Rattle.paper.proofs.ScanLaw.{anyOf, scan-all}
 use Rattle.laws.proofs.HeaderLaw.{same-visits, same-verdict}
@@ -23,7 +23,7 @@ use Rattle.laws.proofs.MendLaw.{InOrder, meets-rule}
 use Rattle.laws.proofs.PlanLaw.{RowsOK, PlanOK, wrote}
 use Rattle.laws.proofs.ImageLaw.{in-order, in-body, directory-back, any-back, mend-fine}
 use Rattle.demands.specs.Damage.{Protected, Damaged, Lost}
-use Rattle.demands.proofs.Answer.{none-total, total-zero}
+use Rattle.demands.proofs.MendParts.{none-total, total-zero}
 use Rattle.demands.proofs.DamageLaw.{damaged-header, damaged-examined, outside, wholly, none-lost}
 
 module _ (rs : List Row) (payload : List ℕ) (room : ℕ) (w : List ℕ) (h : write rs payload room ≡ image w) (b : Bytes payload) where
@@ -37,10 +37,10 @@ module _ (rs : List Row) (payload : List ℕ) (room : ℕ) (w : List ℕ) (h : w
     damaged-fine : mendVerdict d ≡ fine
     damaged-fine = same-verdict d w (a .size) (damaged-header most w d written-order a) ∙ written-fine
 
-    rule : Mended d (mendBytes d)
+    rule : MendRule d (mendBytes d)
     rule = meets-rule d damaged-fine (a .bytes)
 
-    accepts : mend d ≡ mended (mendBytes d) (scan d) (changed d (mendBytes d)) (wholeOf (scan d))
+    accepts : mend d ≡ mended (mendBytes d) (scan d) (changed d (mendBytes d)) (whole d)
     unfolding mend
     accepts = rw damaged-fine
 
@@ -53,14 +53,14 @@ module _ (rs : List Row) (payload : List ℕ) (room : ℕ) (w : List ℕ) (h : w
       ∙ subst (λ (x : List ℕ). anyOf (visits x) ≡ ltb 0 (planes rs)) (r .is) (any-back rs payload (r .plan))
 
   -- whole, if a row is flagged 2
-  whole : (d : List ℕ) → Damaged 1 w d → wholeOf (scan d) ≡ ltb 0 (planes rs)
+  says-whole : (d : List ℕ) → Damaged 1 w d → whole d ≡ ltb 0 (planes rs)
   unfolding report
-  whole d a =
+  says-whole d a =
       let z : total isLost (classesAt d (examined d)) ≡ 0 =
       total-zero isLost d (examined d) (λ q c m. none-lost w d written-order a q c (subst (Among q c) (damaged-examined 1 w d written-order a) m)) in
       rw (scan-all d, visited d a) (go (ltb 0 (planes rs)) z)
     where
-      go : (v : Bool) → total isLost (classesAt d (examined d)) ≡ 0 → wholeOf (given v (report (classesAt d (examined d)))) ≡ v
+      go : (v : Bool) → total isLost (classesAt d (examined d)) ≡ 0 → noneUncorrectable (given v (report (classesAt d (examined d)))) ≡ v
       go true e = rw e
       go false e = refl
 
@@ -68,16 +68,16 @@ module _ (rs : List Row) (payload : List ℕ) (room : ℕ) (w : List ℕ) (h : w
   restored d a =
       accepts 1 d a
       ∙ ap₂ (λ (y : List ℕ) (t : Bool). mended y (scan d) (changed d y) t)
-      (wholly 1 w d written-order a (mendBytes d) (rule 1 d a) (omega arith) (λ q c m i e. omega arith)) (whole d a)
+      (wholly 1 w d written-order a (mendBytes d) (rule 1 d a) (omega arith) (λ q c m i e. omega arith)) (says-whole d a)
 
   -- ---- whole means whole
 
   module _ (d : List ℕ) (a : Damaged 2 w d) where
-    whole-none-lost : wholeOf (scan d) ≡ true → (q c : ℕ) → Protected w q c → Lost d q c → ⊥
+    whole-none-lost : whole d ≡ true → (q c : ℕ) → Protected w q c → Lost d q c → ⊥
     unfolding report
-    whole-none-lost t q c m e = go (anyOf (visits d)) (ap wholeOf (sym (scan-all d)) ∙ t)
+    whole-none-lost t q c m e = go (anyOf (visits d)) (ap noneUncorrectable (sym (scan-all d)) ∙ t)
       where
-        go : (v : Bool) → wholeOf (given v (report (classesAt d (examined d)))) ≡ true → ⊥
+        go : (v : Bool) → noneUncorrectable (given v (report (classesAt d (examined d)))) ≡ true → ⊥
         go true u =
             let z : total isLost (classesAt d (examined d)) ≡ 0 = eqb-true (total isLost (classesAt d (examined d))) 0 u in
             let n : isLost (decode (wordAt d q) (at d c)) ≡ 0 = none-total isLost d (examined d) z q c (subst (Among q c) (sym (damaged-examined 2 w d written-order a)) m) in
@@ -85,7 +85,7 @@ module _ (rs : List Row) (payload : List ℕ) (room : ℕ) (w : List ℕ) (h : w
             omega arith
         go false u = let z : _≡_ {A = ℕ} 1 0 = cc in omega arith
 
-    whole-is-whole : wholeOf (scan d) ≡ true → mendBytes d ≡ w
+    whole-is-whole : whole d ≡ true → mendBytes d ≡ w
     whole-is-whole t =
         wholly 2 w d written-order a (mendBytes d) (rule 2 d a) (omega arith) (λ q c m i e. whole-none-lost t q c m e)
 
@@ -102,8 +102,8 @@ module _ (rs : List Row) (payload : List ℕ) (room : ℕ) (w : List ℕ) (h : w
         )
 
     pub whole-or-kept : (y : List ℕ)
-        × (mend d ≡ mended y (scan d) (changed d y) (wholeOf (scan d)))
-        × (wholeOf (scan d) ≡ true → y ≡ w)
+        × (mend d ≡ mended y (scan d) (changed d y) (whole d))
+        × (whole d ≡ true → y ≡ w)
         × ((q c : ℕ) → Protected w q c → Lost d q c → (wordAt y q ≡ wordAt d q) × (at y c ≡ at d c))
         × ((p : ℕ) → ((q c : ℕ) → Protected w q c → Lost d q c → (q ≡ p / 8 → ⊥) × (c ≡ p → ⊥)) → at y p ≡ at w p)
     whole-or-kept = (mendBytes d, accepts 2 d a, whole-is-whole, lost-kept, rest-right)

@@ -22,8 +22,8 @@ use Rattle.scan.proofs.OneAnswer.{one-scan}
 use Rattle.writer.specs.Answers.{asRow, asPlan, answerOf, bytesAfter, wrote}
 use Rattle.writer.specs.Answers as plan-answer
 use Rattle.writer.specs.declared.plan.Row.{Row}
-use Rattle.writer.specs.declared.room.WriteResult.the-variants.{Written}
-use Rattle.writer.specs.declared.room.WriteResult.the-variants as write
+use Rattle.writer.specs.declared.sizes.WriteResult.the-variants.{Written}
+use Rattle.writer.specs.declared.sizes.WriteResult.the-variants as write
 use Rattle.repair.proofs.mend.Reads as mend
 use Rattle.repair.proofs.scrub.Reads as scrub
 use Rattle.repair.specs.Answers.{asMended, leftBy}
@@ -79,10 +79,10 @@ pub mended : (x : List ℕ) (m : Mending) (y : List ℕ) → MendsTo x (Mended m
 mended x m y u = sym (u .answer)
 
 -- an answer that is known leaves known bytes
-pub mends-to : (x : List ℕ) (r : MendResult) (y : List ℕ) (o : paper.Mending) → MendsTo x r y → paper.mend x ≡ o → (y ≡ leftBy o x) × (asMended r y ≡ o)
-mends-to x r y o u e = (u .leaves ∙ ap (λ (m : paper.Mending). leftBy m x) e, u .answer ∙ e)
+pub mends-to : (x : List ℕ) (r : MendResult) (y : List ℕ) (o : paper.MendAnswer) → MendsTo x r y → paper.mend x ≡ o → (y ≡ leftBy o x) × (asMended r y ≡ o)
+mends-to x r y o u e = (u .leaves ∙ ap (λ (m : paper.MendAnswer). leftBy m x) e, u .answer ∙ e)
 
-refused-as : (o : paper.Mending) (k d : ℕ) (x : List ℕ) → paper.refusedMend k d ≡ o → leftBy o x ≡ x
+refused-as : (o : paper.MendAnswer) (k d : ℕ) (x : List ℕ) → paper.refusedMend k d ≡ o → leftBy o x ≡ x
 refused-as (paper.refusedMend k′ d′) k d x e = refl
 refused-as (paper.mended z r n w) k d x e = let f : _≡_ {A = ℕ} 0 1 = cc in absurd (omega arith)
 

@@ -14,7 +14,7 @@ use Rattle.paper.specs.Parse.{parseVerdict, accepted, headerOf, parse}
 use Rattle.paper.specs.Parity.{decode}
 use Rattle.paper.specs.Scan.{visits, Among, examined, isCorrected, isLost, total, classesAt, Report, report, scan}
 use Rattle.paper.specs.Scrub.{scrub}
-use Rattle.paper.specs.Mend.{LaidApart, apartVerdict, mendVerdict, Mended, mendBytes, wholeOf, mended, mend}
+use Rattle.paper.specs.Mend.{LaidApart, apartVerdict, mendVerdict, MendRule, mendBytes, noneUncorrectable, mended, mend}
 use Rattle.paper.proofs.BytesLaw.{at-left, at-right, length-thrice}
 use Rattle.paper.proofs.LayoutLaw.{length-prologue, length-directoryBytes, differs-not}
 use Rattle.paper.proofs.ScanLaw.{length-classes, anyOf, scan-all}
@@ -31,7 +31,7 @@ use Rattle.laws.proofs.ScrubLaw.{Scrubs, scrubs, scrub-is}
 use Rattle.laws.proofs.Fold.{check-out}
 use Rattle.laws.proofs.Apart.{apart, past}
 use Rattle.demands.specs.Damage.{uncorrected}
-use Rattle.demands.proofs.Answer.{Mends, mends, total-ext, total-zero}
+use Rattle.demands.proofs.MendParts.{Mends, mends, total-ext, total-zero}
 
 -- ---- no scrub wanted where the copies are the votes
 
@@ -66,7 +66,7 @@ module _ (y : List ℕ) (long : headerLength (count y) ≤ length y) (f : (p : �
 
 -- ---- the scan of what mend leaves
 
-whole-again : (r : Option Report) → wholeOf (uncorrected r) ≡ wholeOf r
+whole-again : (r : Option Report) → noneUncorrectable (uncorrected r) ≡ noneUncorrectable r
 whole-again none = refl
 whole-again (some r) = refl
 
@@ -77,7 +77,7 @@ module _ (x y : List ℕ) (r : Option Report) (k : ℕ) (t : Bool) (b : Bytes x)
   same : SameHeader y x
   same = copied x y (m .rule .copies)
 
-  stays : Mended y y
+  stays : MendRule y y
   stays = settled x y (m .rule)
 
   fine-again : mendVerdict y ≡ fine
@@ -113,7 +113,7 @@ module _ (x y : List ℕ) (r : Option Report) (k : ℕ) (t : Bool) (b : Bytes x)
   settles-down =
       let e : mendBytes y ≡ y = one-result y (mendBytes y) y (meets-rule y fine-again (m .rule .bytes)) stays in
       let s : scan y ≡ uncorrected r = scan-again ∙ ap uncorrected (m .report) in
-      rw (fine-again, e, s, changed-none y, whole-again r, m .whole)
+      rw (fine-again, e, s, changed-none y, whole-again r, ap noneUncorrectable (sym (m .report)) ∙ m .isWhole)
 
   -- ---- parsed afresh
 

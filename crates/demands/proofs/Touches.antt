@@ -16,7 +16,7 @@ use Rattle.paper.specs.Bytes.{at, wordAt, Bytes}
 use Rattle.paper.specs.Layout.{voted, prologue, count, headerLength, directoryBytesOf, directoryBytes, header}
 use Rattle.paper.specs.Parity.{Class, clean, flipped, beyond, checkOf, syndrome, decode, flipWord, flipCheck, wordAfter, checkAfter, fixedWord, fixedCheck}
 use Rattle.paper.specs.Scan.{Among, examined}
-use Rattle.paper.specs.Mend.{Mended}
+use Rattle.paper.specs.Mend.{MendRule}
 use Rattle.paper.proofs.LayoutLaw.{vote-is-majority, at-voted}
 use Rattle.laws.proofs.BytesLow.{bytes-voted, byte-apart}
 use Rattle.laws.proofs.CodeLaw.{Column, flipped-column, Flip, corrected}
@@ -151,7 +151,7 @@ data Kept (x y : List ℕ) (p : ℕ) : Type 0 where
   kept : at y p ≡ at x p → Kept x y p
   touched : Touched x p → Kept x y p
 
-module _ (x y : List ℕ) (bx : Bytes x) (m : Mended x y) (q c : ℕ) (there : Among q c (examined x)) where
+module _ (x y : List ℕ) (bx : Bytes x) (m : MendRule x y) (q c : ℕ) (there : Among q c (examined x)) where
   one-column : (i : ℕ) → decode (wordAt x q) (at x c) ≡ flipped i → OneColumn x q c i
   one-column i d = record { word = there; column = sym (column-of (wordAt x q) (at x c) i d .is) }
 
@@ -196,7 +196,7 @@ outvoted-copy x bx p h n = go (decLt p 48)
     go (yes l) = Touched.inPrologue (outvoted-in x (header x) 0 16 bx (prologue-copies x (header x) (λ i g. refl)) p (omega arith) (omega arith) n)
     go (no l) = Touched.inDirectory (outvoted-in x (header x) 48 (16 * count x) bx (directory-copies x (header x) (λ i g. refl)) p (omega arith) (omega arith) n)
 
-touches : (x y : List ℕ) → Bytes x → Mended x y → (p : ℕ) → Kept x y p
+touches : (x y : List ℕ) → Bytes x → MendRule x y → (p : ℕ) → Kept x y p
 touches x y b m p = start (decLt p (headerLength (count x)))
   where
     rest : headerLength (count x) ≤ p → Where p (examined x) → Kept x y p
@@ -212,7 +212,7 @@ touches x y b m p = start (decLt p (headerLength (count x)))
     start (yes l) = head l (ℕ-discrete (at x p) (at (header x) p))
     start (no n) = rest (omega arith) (classify (examined x) p)
 
-pub only-touched : (x y : List ℕ) → Bytes x → Mended x y → (p : ℕ) → (at y p ≡ at x p → ⊥) → Touched x p
+pub only-touched : (x y : List ℕ) → Bytes x → MendRule x y → (p : ℕ) → (at y p ≡ at x p → ⊥) → Touched x p
 only-touched x y b m p n = go (touches x y b m p)
   where
     go : Kept x y p → Touched x p

@@ -8,10 +8,10 @@ use lib.Seq.{sets}
 use Rattle.paper.specs.Mend.{mend}
 use Rattle.paper.specs.Scrub.{scrub}
 use Rattle.paper.specs.Writer.{write}
-use Rattle.paper.specs.Programs.{scrubImage, scrubLine}
+use Rattle.paper.specs.Programs.{scrubImage, scrubText}
 use Rattle.writer.specs.Answers.{asPlan, asWritten, answerOf, bytesAfter}
 use Rattle.writer.specs.declared.plan.Row.{Row}
-use Rattle.writer.specs.declared.room.WriteResult.{WriteResult}
+use Rattle.writer.specs.declared.sizes.WriteResult.{WriteResult}
 use Rattle.scan.specs.Answers.{asScan}
 use Rattle.scan.specs.declared.Scan.{Scan}
 use Rattle.repair.specs.Answers.{asMended, leftBy}
@@ -36,4 +36,4 @@ pub record ScrubsTo (x : List ℕ) (r : Scan) (y : List ℕ) : Type 0 where
 -- lines::scrub of x, with a buffer for its line, as the command calls it: it answered r and left y and `line`
 pub record Prints (x buffer : List ℕ) (r : Printed) (y line : List ℕ) : Type 0 where
   pub written : take (r .image) y ≡ scrubImage x
-  pub said : line ≡ sets buffer 0 (scrubLine x)
+  pub said : line ≡ sets buffer 0 (scrubText x)

@@ -1,8 +1,10 @@
--- A refusal as the paper gives it: its number and its detail. (FORMAT 2)
+-- A refusal as the paper gives it, its number and its detail, and a check's verdict. (FORMAT 2)
 use Prim.Native.Nat.{ℕ}
-use Rattle.paper.specs.Refusals.{truncated, badMagic, foreignEndian, unsupportedVersion, badPrologueChecksum, tooManyRegions, regionOutOfBounds, duplicateRegion, badRecordStride, overflow, tooLarge, overlappingRegions, noRoom, badPlan, Verdict, refuse}
+use Rattle.paper.specs.Refusals.{truncated, badMagic, foreignEndian, unsupportedVersion, badPrologueChecksum, tooManyRegions, regionOutOfBounds, duplicateRegion, badRecordStride, overflow, tooLarge, overlappingRegions, noRoom, badPlan, Verdict, fine, refuse}
 use Rattle.error.specs.declared.Refusal.{Refusal}
 use Rattle.error.specs.declared.Refusal.the-variants.{Truncated, BadMagic, ForeignEndian, UnsupportedVersion, BadPrologueChecksum, TooManyRegions, RegionOutOfBounds, DuplicateRegion, BadRecordStride, Overflow, TooLarge, OverlappingRegions, NoRoom, BadPlan}
+use Rattle.error.specs.declared.Check.{Check}
+use Rattle.error.specs.declared.Check.the-variants as check
 
 abbrev pub numberOf : Refusal → ℕ
 numberOf Truncated = truncated
@@ -38,3 +40,7 @@ detailOf (BadPlan d) = d
 
 abbrev pub asVerdict : Refusal → Verdict
 asVerdict r = refuse (numberOf r) (detailOf r)
+
+abbrev pub asCheck : Check → Verdict
+asCheck check.Fine = fine
+asCheck (check.Refuse r) = asVerdict r

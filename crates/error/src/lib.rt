@@ -21,6 +21,12 @@ pub enum Refusal {
     BadPlan { row: usize },
 }
 
+// What a run of checks says.
+pub enum Check {
+    Fine,
+    Refuse(Refusal),
+}
+
 impl Refusal {
     pub fn number(self) -> u32
         ensures { λ r. ⌜ r ≡ numberOf self ⌝ }

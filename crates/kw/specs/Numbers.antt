@@ -6,7 +6,7 @@ use Prim.Native.Nat.{ℕ}
 use Rattle.bits.specs.Bit.{num}
 use Rattle.paper.specs.Parse.{Parsed, accepted, refused}
 use Rattle.paper.specs.Scan.{Report}
-use Rattle.paper.specs.Mend.{Mending, mended, refusedMend}
+use Rattle.paper.specs.Mend.{MendAnswer, mended, refusedMend}
 
 -- what is returned: 0, or the refusal's number
 abbrev pub refusalNumber : Parsed → ℕ
@@ -34,10 +34,10 @@ scanNumbers (refused n d) s = d ∷ 0 ∷ 0 ∷ 0 ∷ []
 abbrev pub mendingNumbers : Option Report → ℕ → Bool → List ℕ
 mendingNumbers s k w = reportNumbers s ++ k ∷ num w ∷ []
 
-abbrev pub mendNumber : Mending → ℕ
+abbrev pub mendNumber : MendAnswer → ℕ
 mendNumber (mended y r k w) = 0
 mendNumber (refusedMend n d) = n
 
-abbrev pub mendNumbers : Mending → List ℕ
+abbrev pub mendNumbers : MendAnswer → List ℕ
 mendNumbers (mended y r k w) = mendingNumbers r k w
 mendNumbers (refusedMend n d) = d ∷ 0 ∷ 0 ∷ 0 ∷ 0 ∷ 0 ∷ []

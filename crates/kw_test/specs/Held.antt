@@ -9,7 +9,7 @@ use Rattle.bits.specs.Bit.{num}
 use Rattle.paper.specs.Parity.{Outcome}
 use Rattle.paper.specs.Scan.{Report}
 use Rattle.paper.specs.Views.{Range, isTable, recordCount}
-use Rattle.kw_test.specs.Numbers.{wordNumbers, reportNumbers}
+use Rattle.kw_test.specs.Numbers.{wordNumbers, countNumbers}
 use Rattle.kw_test.specs.Reader.{placeNumbers, partNumbers}
 
 -- the bytes and the stride of the table that is made of x and k
@@ -29,4 +29,4 @@ partAnswer p x = placeNumbers p ++ partNumbers x
 
 -- a plane, a word and a scan
 abbrev pub planeAnswer : List ℕ → Option Outcome → Report → List ℕ
-planeAnswer x o r = partNumbers x ++ (wordNumbers o ++ reportNumbers r)
+planeAnswer x o r = partNumbers x ++ (wordNumbers o ++ countNumbers r)

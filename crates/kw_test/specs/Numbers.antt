@@ -29,8 +29,8 @@ abbrev pub wordNumbers : Option Outcome → List ℕ
 wordNumbers (some o) = 1 ∷ outcomeNumbers o
 wordNumbers none = 0 ∷ 0 ∷ 0 ∷ []
 
-abbrev pub reportNumbers : Report → List ℕ
-reportNumbers r = r .words ∷ r .corrected ∷ r .uncorrectable ∷ []
+abbrev pub countNumbers : Report → List ℕ
+countNumbers r = r .words ∷ r .corrected ∷ r .uncorrectable ∷ []
 
 -- two answers, a yes as 1
 abbrev pub answersNumbers : Bool → Bool → List ℕ

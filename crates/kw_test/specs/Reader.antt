@@ -51,6 +51,6 @@ abbrev pub partNumbers : List ℕ → List ℕ
 partNumbers x = length x ∷ crc32 x ∷ []
 
 -- 1 and the counts, or zeros
-abbrev pub scanNumbers : Option Report → List ℕ
-scanNumbers (some r) = 1 ∷ r .words ∷ r .corrected ∷ r .uncorrectable ∷ []
-scanNumbers none = 0 ∷ 0 ∷ 0 ∷ 0 ∷ []
+abbrev pub scanAnswer : Option Report → List ℕ
+scanAnswer (some r) = 1 ∷ r .words ∷ r .corrected ∷ r .uncorrectable ∷ []
+scanAnswer none = 0 ∷ 0 ∷ 0 ∷ 0 ∷ []

@@ -10,7 +10,7 @@ ghost use Rattle.paper.specs.Layout as paper;
 ghost use Rattle.paper.specs.Parity.{planeKind, checkOf, outcome};
 ghost use Rattle.paper.specs.Scan.{sliceWord, sliceScan};
 ghost use Rattle.ecc.specs.Answers.{asWord};
-ghost use Rattle.kw_test.specs.Numbers.{asNumbers, regionNumbers, outcomeNumbers, wordNumbers, reportNumbers, answersNumbers};
+ghost use Rattle.kw_test.specs.Numbers.{asNumbers, regionNumbers, outcomeNumbers, wordNumbers, countNumbers, answersNumbers};
 use ecc::EccReport;
 use ecc::PlaneWord;
 use ecc::WordStatus;
@@ -207,7 +207,7 @@ pub extern "C" fn kwt_plane_word(parity: &[u8], data: &[u8], index: usize, answe
 // {words, corrected, uncorrectable}
 #[no_mangle]
 pub extern "C" fn kwt_plane_scan(parity: &[u8], data: &[u8], answer: &mut [u64; 3])
-    ensures { λ _. ⌜ now (answer .exit) ≡ reportNumbers (sliceScan (now («data» .entry)) (now (parity .entry))) ⌝ }
+    ensures { λ _. ⌜ now (answer .exit) ≡ countNumbers (sliceScan (now («data» .entry)) (now (parity .entry))) ⌝ }
 {
     let r = ecc::plane_scan(parity, data);
     *answer = [r.words as u64, r.corrected as u64, r.uncorrectable as u64];

@@ -3,13 +3,13 @@ ghost use mathlib.Core.Path.{_≡_};
 ghost use Rattle.paper.specs.Scan.{scanRegion, scanIn};
 ghost use Rattle.paper.specs.Scrub as paper;
 ghost use Rattle.scan.specs.Answers.{asScan};
-ghost use Rattle.kw_test.specs.Reader.{scanNumbers, entryWith};
+ghost use Rattle.kw_test.specs.Reader.{scanAnswer, entryWith};
 use super::reader::header_of;
 use layout::Region;
 use scan::Scan;
 
 fn scan_numbers(scan: Scan) -> [u64; 4]
-    ensures { λ r. ⌜ r ≡ scanNumbers (asScan scan) ⌝ }
+    ensures { λ r. ⌜ r ≡ scanAnswer (asScan scan) ⌝ }
 {
     match scan {
         Scan::Report(r) => [
@@ -33,7 +33,7 @@ pub extern "C" fn kwt_verify_region(
     covers: u16,
     answer: &mut [u64; 4],
 )
-    ensures { λ _. ⌜ now (answer .exit) ≡ scanNumbers (scanRegion count (now (bytes .entry)) (entryWith kind flags «word_offset» «word_length» covers)) ⌝ }
+    ensures { λ _. ⌜ now (answer .exit) ≡ scanAnswer (scanRegion count (now (bytes .entry)) (entryWith kind flags «word_offset» «word_length» covers)) ⌝ }
 {
     let region = Region {
         kind,
@@ -47,14 +47,14 @@ pub extern "C" fn kwt_verify_region(
 
 #[no_mangle]
 pub extern "C" fn kwt_verify_all(bytes: &[u8], count: u16, answer: &mut [u64; 4])
-    ensures { λ _. ⌜ now (answer .exit) ≡ scanNumbers (scanIn count (now (bytes .entry))) ⌝ }
+    ensures { λ _. ⌜ now (answer .exit) ≡ scanAnswer (scanIn count (now (bytes .entry))) ⌝ }
 {
     *answer = scan_numbers(scan::verify_all(bytes, header_of(count)));
 }
 
 #[no_mangle]
 pub extern "C" fn kwt_scrub(bytes: &mut [u8], answer: &mut [u64; 4])
-    ensures is { λ _. ⌜ now (answer .exit) ≡ scanNumbers (paper.scrub (now (bytes .entry)) .report) ⌝ }
+    ensures is { λ _. ⌜ now (answer .exit) ≡ scanAnswer (paper.scrub (now (bytes .entry)) .report) ⌝ }
     ensures leaves { λ _. ⌜ now (bytes .exit) ≡ paper.scrub (now (bytes .entry)) .image ⌝ }
 {
     *answer = scan_numbers(repair::scrub(bytes));

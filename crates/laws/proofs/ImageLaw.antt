@@ -72,6 +72,12 @@ unfolding entriesBytes
 length-entriesBytes [] = refl
 length-entriesBytes (e ∷ es) = omega (arith, length-append (entryBytes e) (entriesBytes es), length-entry e, length-entriesBytes es)
 
+pub entriesBytes-append : (xs ys : List Entry) → entriesBytes (xs ++ ys) ≡ entriesBytes xs ++ entriesBytes ys
+unfolding entriesBytes
+entriesBytes-append [] ys = refl
+entriesBytes-append (e ∷ xs) ys =
+    ap (λ (l : List ℕ). entryBytes e ++ l) (entriesBytes-append xs ys) ∙ sym (append-assoc (entryBytes e) (entriesBytes xs) (entriesBytes ys))
+
 -- ---- the plan's directory
 
 pub length-rows : (a : ℕ) (rs : List Row) → length (rowEntries a rs) ≡ length rs

@@ -13,7 +13,7 @@ use Rattle.paper.specs.Refusals.{fine}
 use Rattle.paper.specs.Layout.{count, headerLength, header}
 use Rattle.paper.specs.Parity.{checkOf, fixedWord, fixedCheck}
 use Rattle.paper.specs.Scan.{Among, examined}
-use Rattle.paper.specs.Mend.{mendVerdict, Elsewhere, Mended, fixAll, mendBytes}
+use Rattle.paper.specs.Mend.{mendVerdict, Elsewhere, MendRule, fixAll, mendBytes}
 use Rattle.paper.proofs.BytesLaw.{at-left, at-right, read-ext, read-inj}
 use Rattle.paper.proofs.LayoutLaw.{length-header}
 use Rattle.laws.proofs.HeaderLaw.{SameHeader, same-header, same-examined, copied}
@@ -32,7 +32,7 @@ same-in-word y z q p by bz e h =
     let m : 8 * q + p % 8 ≡ p = omega arith in
     subst (λ (n : ℕ). at y n ≡ at z n) m l
 
-pub one-result : (x y z : List ℕ) → Mended x y → Mended x z → y ≡ z
+pub one-result : (x y z : List ℕ) → MendRule x y → MendRule x z → y ≡ z
 one-result x y z my mz = ext-getD 0 y z (my .size ∙ sym (mz .size)) (λ p h. pick p (decLt p (headerLength (count x))))
   where
     rest : (p : ℕ) → headerLength (count x) ≤ p → Where p (examined x) → at y p ≡ at z p
@@ -66,7 +66,7 @@ under-header x y l =
 
 -- ---- the procedure meets the rule
 
-pub meets-rule : (x : List ℕ) → mendVerdict x ≡ fine → Bytes x → Mended x (mendBytes x)
+pub meets-rule : (x : List ℕ) → mendVerdict x ≡ fine → Bytes x → MendRule x (mendBytes x)
 unfolding mendBytes
 meets-rule x v b =
     record {
@@ -91,7 +91,7 @@ meets-rule x v b =
 
 -- ---- what is mended stays
 
-pub settled : (x y : List ℕ) → Mended x y → Mended y y
+pub settled : (x y : List ℕ) → MendRule x y → MendRule y y
 settled x y m =
     let s : SameHeader y x = copied x y (m .copies) in
     let e : examined y ≡ examined x = same-examined y x (m .size) s in

@@ -207,6 +207,3 @@ scrub-is x v b =
     (record { size = refl; bytes = b; head = λ i h. refl; words = λ q c m. refl; checks = λ q c m. refl })
     (apart x v) (λ q c m. past x v q c m .0)
     ∙ rw (report-none, none-plus (report (classesAt x (examined x))), scan-all x))
-
-pub scrub-report : (x : List ℕ) → mendVerdict x ≡ fine → Bytes x → scrub x .report ≡ scan x
-scrub-report x v b = ap (λ (s : Scrubbed). s .report) (scrub-is x v b)

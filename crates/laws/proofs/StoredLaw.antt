@@ -1,6 +1,6 @@
 -- The stored count: the header bytes that differ from the vote, and one for each corrected word. Assumes nothing.
 use mathlib.Core.Path.{_≡_, refl, sym, ap, ap₂, _∙_, subst}
-use mathlib.Core.Bool.{Bool, cond}
+use mathlib.Core.Bool.{Bool, cond, true, false}
 use mathlib.Core.List.{List, [], _∷_, _++_}
 use mathlib.Core.Logic.{_⊎_, inl, inr}
 use Prim.Native.Nat.{ℕ, zero, suc, _+_, _-_, _*_, _/_, _%_, _^_, _≤_, _<_}
@@ -19,7 +19,7 @@ use Rattle.paper.specs.Refusals.{fine}
 use Rattle.paper.specs.Layout.{count, headerLength, header}
 use Rattle.paper.specs.Parity.{Class, clean, flipped, beyond, checkOf, decode, flipWord, flipCheck, wordAfter, checkAfter, fixedWord, fixedCheck}
 use Rattle.paper.specs.Scan.{Pair, examined, isCorrected, total, classAt, classesAt}
-use Rattle.paper.specs.Mend.{mendVerdict, fixAt, fixAll, storedPair, changed, mendBytes}
+use Rattle.paper.specs.Mend.{mendVerdict, fixAt, fixAll, storedPair, changed, mendBytes, Change, changesFrom, changes}
 use Rattle.paper.proofs.BytesLaw.{read-ext, read-inj}
 use Rattle.paper.proofs.LayoutLaw.{length-header}
 use Rattle.laws.proofs.BytesLow.{byte-apart}
@@ -30,31 +30,60 @@ use Rattle.laws.proofs.Apart.{accepted, apart, past}
 
 -- ---- counting changes
 
+abbrev one : ℕ → ℕ → ℕ → List Change
+one p b v = record { position = p; old = b; new = v } ∷ []
+
+-- their number does not depend on where positions are counted from
+shifted : (p q : ℕ) (x y : List ℕ) → length (changesFrom p x y) ≡ length (changesFrom q x y)
+unfolding changesFrom
+shifted p q [] y = refl
+shifted p q (b ∷ x) [] = refl
+shifted p q (b ∷ x) (v ∷ y) = go (eqb b v) (shifted (suc p) (suc q) x y)
+  where
+    go : (t : Bool) → length (changesFrom (suc p) x y) ≡ length (changesFrom (suc q) x y)
+        → length (cond t [] (one p b v) ++ changesFrom (suc p) x y) ≡ length (cond t [] (one q b v) ++ changesFrom (suc q) x y)
+    go true e = e
+    go false e = ap suc e
+
+pub changed-nil : (y : List ℕ) → changed [] y ≡ 0
+unfolding changed changes changesFrom
+changed-nil y = refl
+
+pub changed-short : (b : ℕ) (x : List ℕ) → changed (b ∷ x) [] ≡ 0
+unfolding changed changes changesFrom
+changed-short b x = refl
+
+pub changed-cons : (b v : ℕ) (x y : List ℕ) → changed (b ∷ x) (v ∷ y) ≡ cond (eqb b v) 0 1 + changed x y
+unfolding changed changes changesFrom
+changed-cons b v x y = go (eqb b v) (shifted 1 0 x y)
+  where
+    go : (t : Bool) → length (changesFrom 1 x y) ≡ length (changesFrom 0 x y)
+        → length (cond t [] (one 0 b v) ++ changesFrom 1 x y) ≡ cond t 0 1 + length (changesFrom 0 x y)
+    go true e = e ∙ sym (zero-add (length (changesFrom 0 x y)))
+    go false e = ap suc e ∙ omega arith
+
 pub changed-none : (x : List ℕ) → changed x x ≡ 0
-unfolding changed
-changed-none [] = refl
-changed-none (b ∷ x) = rw (eq-eqb b b refl, changed-none x)
+changed-none [] = changed-nil []
+changed-none (b ∷ x) = rw (changed-cons b b x x, eq-eqb b b refl, changed-none x)
 
 pub changed-append : (a a′ b b′ : List ℕ) → length a ≡ length a′ → changed (a ++ b) (a′ ++ b′) ≡ changed a a′ + changed b b′
-unfolding changed
-changed-append [] [] b b′ e = sym (zero-add (changed b b′))
+changed-append [] [] b b′ e = sym (ap (λ (n : ℕ). n + changed b b′) (changed-nil []) ∙ zero-add (changed b b′))
 changed-append [] (y ∷ a′) b b′ e = absurd (suc-ne-zero (length a′) (sym e))
 changed-append (x ∷ a) [] b b′ e = absurd (suc-ne-zero (length a) e)
 changed-append (x ∷ a) (y ∷ a′) b b′ e =
-    ap (λ (n : ℕ). cond (eqb x y) 0 1 + n) (changed-append a a′ b b′ (suc-inj e)) ∙ sym (add-assoc (cond (eqb x y) 0 1) (changed a a′) (changed b b′))
+    omega (arith, changed-cons x y (a ++ b) (a′ ++ b′), changed-cons x y a a′, changed-append a a′ b b′ (suc-inj e))
 
 -- over y, where each byte of y is x's or z's
 pub changed-over : (x y z : List ℕ) → length y ≡ length x → length z ≡ length x → ((p : ℕ) → (at y p ≡ at x p) ⊎ (at y p ≡ at z p))
     → changed x z ≡ changed x y + changed y z
-unfolding changed
-changed-over [] [] z e f g = refl
+changed-over [] [] z e f g = omega (arith, changed-nil z, changed-nil [])
 changed-over [] (b ∷ y) z e f g = absurd (suc-ne-zero (length y) e)
 changed-over (a ∷ x) [] z e f g = absurd (suc-ne-zero (length x) (sym e))
 changed-over (a ∷ x) (b ∷ y) [] e f g = absurd (suc-ne-zero (length x) (sym f))
 changed-over (a ∷ x) (b ∷ y) (c ∷ z) e f g =
     let ih = changed-over x y z (suc-inj e) (suc-inj f) (λ p. g (suc p)) in
     let h : cond (eqb a c) 0 1 ≡ cond (eqb a b) 0 1 + cond (eqb b c) 0 1 = head (g 0) in
-    omega arith
+    omega (arith, changed-cons a c x z, changed-cons a b x y, changed-cons b c y z)
   where
     head : (b ≡ a) ⊎ (b ≡ c) → cond (eqb a c) 0 1 ≡ cond (eqb a b) 0 1 + cond (eqb b c) 0 1
     head (inl d) = rw (d, eq-eqb a a refl) (sym (zero-add (cond (eqb a c) 0 1)))
@@ -65,13 +94,12 @@ same-list x y e f = ap (changed x) (ext-getD 0 y x e (λ p h. f p)) ∙ changed-
 
 -- one byte differs
 changed-one : (x y : List ℕ) (p : ℕ) → length y ≡ length x → p < length x → (at y p ≡ at x p → ⊥) → ((i : ℕ) → (i ≡ p → ⊥) → at y i ≡ at x i) → changed x y ≡ 1
-unfolding changed
 changed-one [] y p e h n f = absurd (not-suc-le-zero h)
 changed-one (a ∷ x) [] p e h n f = absurd (suc-ne-zero (length x) (sym e))
 changed-one (a ∷ x) (b ∷ y) zero e h n f =
-    rw (ne-eqb a b (λ g. n (sym g)), same-list x y (suc-inj e) (λ i. f (suc i) (λ g. suc-ne-zero i g)))
+    rw (changed-cons a b x y, ne-eqb a b (λ g. n (sym g)), same-list x y (suc-inj e) (λ i. f (suc i) (λ g. suc-ne-zero i g)))
 changed-one (a ∷ x) (b ∷ y) (suc p) e h n f =
-    rw (eq-eqb a b (sym (f 0 (λ g. suc-ne-zero p (sym g)))), changed-one x y p (suc-inj e) (le-of-suc-le-suc h) n (λ i g. f (suc i) (λ d. g (suc-inj d))))
+    rw (changed-cons a b x y, eq-eqb a b (sym (f 0 (λ g. suc-ne-zero p (sym g)))), changed-one x y p (suc-inj e) (le-of-suc-le-suc h) n (λ i g. f (suc i) (λ d. g (suc-inj d))))
 
 -- ---- one word
 

@@ -5,10 +5,11 @@ ghost use mathlib.Core.Path.{_≡_};
 ghost use lib.ListN.{length, take};
 ghost use lib.Seq.{sets};
 ghost use Rattle.io.specs.Counts.{Counts};
-ghost use Rattle.paper.specs.Programs.{reportText, scrubImage, scrubLine};
+ghost use Rattle.paper.specs.Programs.{reportText, scrubImage, scrubText};
 ghost use Rattle.lines.specs.Left.{leftIn};
 use layout::MAX_INPUT_BYTES;
 use line::put_ecc;
+use line::put_line_feed;
 use line::put_refused;
 use line::put_regions;
 use line::put_stored;
@@ -23,14 +24,20 @@ pub fn report(image: &[u8], out: &mut [u8; 128]) -> usize
     ensures fits { λ r. ⌜ Counts r (now (out .exit)) ⌝ }
 {
     if image.len() > MAX_INPUT_BYTES {
-        return put_too_long(out);
+        let end = put_too_long(out, 0);
+        return put_line_feed(out, end);
     }
     match view::parse(image) {
-        ParseResult::Refused(refusal) => put_refused(out, refusal),
+        ParseResult::Refused(refusal) => {
+            let end = put_refused(out, 0, refusal);
+            put_line_feed(out, end)
+        }
         ParseResult::Parsed(header) => {
             let report = scan::verify_all(image, header);
-            let at = put_regions(out, header.region_count, header.needs_scrub());
-            put_ecc(out, at, report)
+            let first = put_regions(out, 0, header.region_count, header.needs_scrub());
+            let second = put_line_feed(out, first);
+            let end = put_ecc(out, second, report);
+            put_line_feed(out, end)
         }
     }
 }
@@ -43,26 +50,33 @@ pub struct Printed {
 
 // An image mended in place, all of it to be written, or refused and none of it; and from the start of out on the line that says so.
 pub fn scrub(image: &mut [u8], out: &mut [u8; 128]) -> Printed
-    ensures is { λ r. ⌜ r .line ≡ length (scrubLine (now (image .entry))) ⌝ }
-    ensures says { λ _. ⌜ now (out .exit) ≡ sets (now (out .entry)) 0 (scrubLine (now (image .entry))) ⌝ }
+    ensures is { λ r. ⌜ r .line ≡ length (scrubText (now (image .entry))) ⌝ }
+    ensures says { λ _. ⌜ now (out .exit) ≡ sets (now (out .entry)) 0 (scrubText (now (image .entry))) ⌝ }
     ensures leaves { λ _. ⌜ now (image .exit) ≡ leftIn (now (image .entry)) ⌝ }
     ensures writes { λ r. ⌜ (r .image ≡ length (scrubImage (now (image .entry)))) × (take (r .image) (now (image .exit)) ≡ scrubImage (now (image .entry))) ⌝ }
     ensures fits { λ r. ⌜ Counts (r .line) (now (out .exit)) × Counts (r .image) (now (image .exit)) ⌝ }
 {
     if image.len() > MAX_INPUT_BYTES {
+        let end = put_too_long(out, 0);
         return Printed {
             image: 0,
-            line: put_too_long(out),
+            line: put_line_feed(out, end),
         };
     }
     match repair::mend(image) {
-        MendResult::Refused(refusal) => Printed {
-            image: 0,
-            line: put_refused(out, refusal),
-        },
-        MendResult::Mended(mending) => Printed {
-            image: image.len(),
-            line: put_stored(out, mending.stored),
-        },
+        MendResult::Refused(refusal) => {
+            let end = put_refused(out, 0, refusal);
+            Printed {
+                image: 0,
+                line: put_line_feed(out, end),
+            }
+        }
+        MendResult::Mended(mending) => {
+            let end = put_stored(out, 0, mending.stored);
+            Printed {
+                image: image.len(),
+                line: put_line_feed(out, end),
+            }
+        }
     }
 }

@@ -147,7 +147,3 @@ crc-is-802-3 message =
       divided = register-divides (sent message);
       is = reflect-complement (serialR allOnes (sent message)) (serialR-lt allOnes (sent message) (lit< tt));
     }
-
-pub crc32-lt : (bs : List ℕ) → crc32 bs < 2 ^ 32
-unfolding crc32
-crc32-lt bs = omega arith

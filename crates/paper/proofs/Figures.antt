@@ -17,8 +17,8 @@ use Rattle.paper.specs.Views.{tableSpan, tableVerdict, bytesSpan, Span, 
 use Rattle.paper.specs.Parity.{columns, find, isOdd, classOf, checkOf, syndrome, decode, flipWord}
 use Rattle.paper.specs.Scan.{planeOf, isProtected, visitOf, visitsOver, visits, pairsFrom, wordsOf, examinedIn, examined, total, report, classAt, classesAt, scanOf, scan}
 use Rattle.paper.specs.Scrub.{scrub, scrubFrom, scrubRegion, scrubVisits, scrubWords, scrubWord, Scrubbed}
-use Rattle.paper.specs.Mend.{meets, meetsAny, inHeader, apartVerdict, mendVerdict, fixAt, fixAll, mendBytes, changed, mend, Mending, refusedMend, mended}
-use Rattle.paper.specs.Programs.{text, digits, decimal, field, tooLong, tooLongLine, refusedLine, regionsLine, eccLine, storedLine, reportText, scrubImage, scrubLine}
+use Rattle.paper.specs.Mend.{meets, meetsAny, inHeader, apartVerdict, mendVerdict, fixAt, fixAll, mendBytes, changesFrom, changes, changed, mend, MendAnswer, refusedMend, mended}
+use Rattle.paper.specs.Programs.{text, digits, decimal, field, tooLong, tooLongLine, refusedLine, regionsLine, eccLine, storedLine, lines, reportText, scrubImage, scrubLine, scrubText}
 use Rattle.paper.specs.Writer.{Row, rowEntries, planeEntry, planeEntries, rowWords, planesWords, planes, regions, planDirectory, entryBytes, entriesBytes, prologueStart, prologueBytes, checks, planeBytes, planesBytes, planImage, kindAmong, rowsVerdict, imageLength, planVerdict, write, image, refusedPlan}
 
 -- ---- what a figure computes with: a line `unfolding parsing` opens all that this one names
@@ -27,8 +27,8 @@ parsing : List ℕ → Parsed
 unfolding parse parseVerdict headerVerdict prologueVerdict entriesVerdict among headerOf prologue voted tab count countIn read crc32 serialR stepR sent bitsLow bit directory directoryOf directoryBytes directoryBytesOf entries entryOf prologueOff directoryOff differs
 parsing x = parse x
 
-mending : List ℕ → Mending
-unfolding parsing mend mendVerdict mendBytes header apartVerdict meets meetsAny inHeader examined visits visitsOver visitOf isProtected planeOf firstThat examinedIn wordsOf pairsFrom fixAll fixAt classAt decode syndrome checkOf columns find isOdd ones classOf syn flipWord le scan scanOf report classesAt total changed
+mending : List ℕ → MendAnswer
+unfolding parsing mend mendVerdict mendBytes header apartVerdict meets meetsAny inHeader examined visits visitsOver visitOf isProtected planeOf firstThat examinedIn wordsOf pairsFrom fixAll fixAt classAt decode syndrome checkOf columns find isOdd ones classOf syn flipWord le scan scanOf report classesAt total changed changes changesFrom
 mending x = mend x
 
 scrubbing : List ℕ → Scrubbed
@@ -36,7 +36,7 @@ unfolding mending scrub scrubFrom scrubRegion nth scrubVisits scrubWords scrubWo
 scrubbing x = scrub x
 
 printing : List ℕ → List ℕ
-unfolding mending reportText scrubImage scrubLine tooLong tooLongLine refusedLine regionsLine eccLine storedLine field decimal digits text
+unfolding mending reportText scrubImage scrubText scrubLine lines tooLong tooLongLine refusedLine regionsLine eccLine storedLine field decimal digits text
 printing x = reportText x
 
 writing : List Row → List ℕ → List ℕ
@@ -112,7 +112,7 @@ damaged-printed : reportText oneDamaged ≡ text "regions 2 scrub yes\necc 1 1 0
 unfolding oneDamaged oneImage printing
 damaged-printed = refl
 
-damaged-scrubbed : (scrubImage oneDamaged ≡ oneImage) × (scrubLine oneDamaged ≡ text "stored 2\n")
+damaged-scrubbed : (scrubImage oneDamaged ≡ oneImage) × (scrubText oneDamaged ≡ text "stored 2\n")
 unfolding oneDamaged oneImage printing
 damaged-scrubbed = (refl, refl)
 

@@ -2,11 +2,10 @@
 use mathlib.Core.Path.{_≡_, refl, sym, ap, ap₂, _∙_}
 use mathlib.Core.Bool.{Bool, true, false, _||_, or-true, or-false}
 use mathlib.Core.List.{List, [], _∷_, _++_, append-nil, append-assoc}
-use mathlib.Core.Option.{none, some}
+use mathlib.Core.Option.{some}
 use Prim.Native.Nat.{ℕ, zero, suc, _+_, _-_, _*_, _/_, _≤_, _<_, min}
 use native.Mathlib.Nat.{add-zero, zero-add, add-suc, suc-add, add-assoc, mul-div-cancel, min-le-left, min-le-right}
 use native.Mathlib.Omega.{arith}
-use borrow.Author.Tests.{le-leb, lt-leb}
 use lib.Dec.{lit<}
 use lib.ListN.{length, take, drop, length-take, length-drop, length-append}
 use lib.Seq.{getD-take, getD-drop, drop-nil}
@@ -14,7 +13,7 @@ use Rattle.paper.specs.Bytes.{at, wordAt, part, given, tab}
 use Rattle.paper.specs.Layout.{Entry, start, end}
 use Rattle.paper.specs.Parity.{Class, decode}
 use Rattle.paper.specs.Views.{nth}
-use Rattle.paper.specs.Scan.{Report, isCorrected, isLost, total, report, sliceWords, sliceScan, planeWithin, planeOf, isProtected, Visit, visitWith, visitOf, visitsOver, visits, Pair, pairsFrom, wordsOf, examinedIn, examined, classAt, classesAt, scanOf, scan}
+use Rattle.paper.specs.Scan.{Report, isCorrected, isLost, total, report, sliceWords, sliceScan, planeOf, isProtected, Visit, visitWith, visitOf, visitsOver, visits, Pair, pairsFrom, wordsOf, examinedIn, examined, classAt, classesAt, scanOf, scan}
 use Rattle.paper.specs.Scrub.{State, scrubWord, scrubWords, scrubVisits, visitAt}
 use Rattle.paper.proofs.BytesLaw.{tab-ext, read-ext}
 
@@ -62,18 +61,6 @@ module _ (x : List ℕ) (e p : Entry) (he : end e ≤ length x) (hp : end p ≤ 
       ∙ tab-ext m f (λ w. decode (wordAt x (e .offset + w)) (at x (8 * p .offset + w)))
       (λ w h. ap₂ decode (word-part w (omega (arith, min-le-left (e .words) (8 * p .words)))) (at-part x (start p) (end p) w (omega (arith, min-le-right (e .words) (8 * p .words)))))
       ∙ sym (classes-tab x m (e .offset) (8 * p .offset)))
-
--- ---- the plane of a region
-
-module _ (len : ℕ) (e p : Entry) where
-  pub plane-in : end e ≤ len → end p ≤ len → planeWithin len e (some p) ≡ some p
-  plane-in he hp = rw (le-leb (end e) len he, le-leb (end p) len hp)
-
-  pub region-out : len < end e → planeWithin len e (some p) ≡ none
-  region-out h = rw (lt-leb (end e) len h)
-
-  pub plane-out : end e ≤ len → len < end p → planeWithin len e (some p) ≡ none
-  plane-out he h = rw (le-leb (end e) len he, lt-leb (end p) len h)
 
 -- ---- reports add up
 

@@ -6,7 +6,7 @@ use mathlib.Core.Option.{none, some}
 use Prim.Native.Nat.{ℕ, zero, suc, _+_, _≤_, _<_}
 use native.Mathlib.Nat.{le-of-suc-le-suc, not-suc-le-zero}
 use native.Mathlib.Numerals.{add-one}
-use borrow.Author.Tests.{eq-eqb, ne-eqb, lt-ltb, le-ltb}
+use borrow.Author.Tests.{lt-ltb, le-ltb}
 use lib.ListN.{length, getD, drop}
 use lib.Seq.{drop-nil}
 use Rattle.paper.specs.Refusals.{fine, refuse}
@@ -17,14 +17,6 @@ use Rattle.paper.specs.Views.{nth, firstThat}
 -- ---- entry e stands at i
 
 module _ (es : List Entry) (i : ℕ) (e : Entry) (s : drop i es ≡ e ∷ drop (i + 1) es) where
-  pub among-here : (k : ℕ) → e .kind ≡ k → among k (drop i es) ≡ true
-  unfolding among
-  among-here k h = rw (s, eq-eqb (e .kind) k h)
-
-  pub among-next : (k : ℕ) → (e .kind ≡ k → ⊥) → among k (drop (i + 1) es) ≡ among k (drop i es)
-  unfolding among
-  among-next k h = rw (s, ne-eqb (e .kind) k h)
-
   pub first-here : (t : Entry → Bool) → t e ≡ true → firstThat t (drop i es) ≡ some e
   unfolding firstThat
   first-here t h = rw (s, h)
@@ -51,10 +43,6 @@ module _ (es : List Entry) (i : ℕ) (e : Entry) (s : drop i es ≡ e ∷ drop (
 -- ---- nothing is left
 
 module _ (es : List Entry) (i : ℕ) (s : drop i es ≡ []) where
-  pub among-end : (k : ℕ) → among k (drop i es) ≡ false
-  unfolding among
-  among-end k = rw s
-
   pub first-end : (t : Entry → Bool) → firstThat t (drop i es) ≡ none
   unfolding firstThat
   first-end t = rw s
@@ -82,3 +70,15 @@ unfolding nth
 nth-first [] i f fs e = let z : [] ≡ f ∷ fs = sym (drop-nil i) ∙ e in cc
 nth-first (g ∷ es) zero f fs e = cc
 nth-first (g ∷ es) (suc i) f fs e = nth-first es i f fs e
+
+pub nth-gone : (es : List Entry) (i : ℕ) → nth i es ≡ none → drop i es ≡ []
+unfolding nth
+nth-gone [] i e = drop-nil i
+nth-gone (f ∷ es) zero e = cc
+nth-gone (f ∷ es) (suc i) e = nth-gone es i e
+
+pub nth-there : (es : List Entry) (i : ℕ) (f : Entry) → nth i es ≡ some f → drop i es ≡ f ∷ drop (suc i) es
+unfolding nth
+nth-there [] i f e = cc
+nth-there (g ∷ es) zero f e = cc
+nth-there (g ∷ es) (suc i) f e = nth-there es i f e

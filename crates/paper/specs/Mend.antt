@@ -46,7 +46,7 @@ pub record Elsewhere (x : List ℕ) (p : ℕ) : Type 0 where
   pub noWord : (q c : ℕ) → Among q c (examined x) → q ≡ p / 8 → ⊥
   pub noCheck : (q c : ℕ) → Among q c (examined x) → c ≡ p → ⊥
 
-pub record Mended (x y : List ℕ) : Type 0 where
+pub record MendRule (x y : List ℕ) : Type 0 where
   pub size : length y ≡ length x
   pub bytes : Bytes y
   -- all header copies become the vote
@@ -104,24 +104,40 @@ mendBytes x = header x ++ drop (headerLength (count x)) (fixAll (examined x) x)
 
 -- ---- the answer
 
+-- a byte that differs: where, and what it was and is
+pub record Change : Type 0 where
+  pub position : ℕ
+  pub old : ℕ
+  pub new : ℕ
+
+-- from position p on, rising
+unfoldable pub changesFrom : ℕ → List ℕ → List ℕ → List Change
+changesFrom p [] y = []
+changesFrom p (b ∷ x) [] = []
+changesFrom p (b ∷ x) (v ∷ y) = cond (eqb b v) [] (record { position = p; old = b; new = v } ∷ []) ++ changesFrom (suc p) x y
+
+unfoldable pub changes : List ℕ → List ℕ → List Change
+changes x y = changesFrom 0 x y
+
 -- the number of positions whose value changed
 unfoldable pub changed : List ℕ → List ℕ → ℕ
-changed [] y = 0
-changed (b ∷ x) [] = 0
-changed (b ∷ x) (v ∷ y) = cond (eqb b v) 0 1 + changed x y
+changed x y = length (changes x y)
+
+abbrev pub noneUncorrectable : Option Report → Bool
+noneUncorrectable none = false
+noneUncorrectable (some r) = eqb (r .uncorrectable) 0
 
 -- there is a report with no uncorrectable word
-abbrev pub wholeOf : Option Report → Bool
-wholeOf none = false
-wholeOf (some r) = eqb (r .uncorrectable) 0
+abbrev pub whole : List ℕ → Bool
+whole x = noneUncorrectable (scan x)
 
-pub data Mending : Type 0 where
-  refusedMend : ℕ → ℕ → Mending
-  mended : List ℕ → Option Report → ℕ → Bool → Mending
+pub data MendAnswer : Type 0 where
+  refusedMend : ℕ → ℕ → MendAnswer
+  mended : List ℕ → Option Report → ℕ → Bool → MendAnswer
 
-abbrev pub mendAs : Verdict → List ℕ → List ℕ → Option Report → Mending
-mendAs fine x y r = mended y r (changed x y) (wholeOf r)
+abbrev pub mendAs : Verdict → List ℕ → List ℕ → Option Report → MendAnswer
+mendAs fine x y r = mended y r (changed x y) (whole x)
 mendAs (refuse n d) x y r = refusedMend n d
 
-unfoldable pub mend : List ℕ → Mending
+unfoldable pub mend : List ℕ → MendAnswer
 mend x = mendAs (mendVerdict x) x (mendBytes x) (scan x)

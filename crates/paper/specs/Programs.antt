@@ -9,7 +9,7 @@ use lib.Dec.{ltb}
 use lib.ListN.{length}
 use Rattle.paper.specs.Parse.{Parsed, accepted, refused, parse}
 use Rattle.paper.specs.Scan.{Report, scan}
-use Rattle.paper.specs.Mend.{Mending, refusedMend, mended, mend}
+use Rattle.paper.specs.Mend.{MendAnswer, refusedMend, mended, mend}
 
 unfoldable pub text : String → List ℕ
 text empty = []
@@ -31,47 +31,55 @@ decimal n = digits (suc n) n
 unfoldable pub field : String → ℕ → List ℕ
 field s n = text s ++ decimal n
 
--- ---- the lines
+-- ---- the lines, without their line feeds
 
 unfoldable pub tooLong : List ℕ → Bool
 tooLong x = ltb 65536 (length x)
 
 unfoldable pub tooLongLine : List ℕ
-tooLongLine = text "too-long\n"
+tooLongLine = text "too-long"
 
 unfoldable pub refusedLine : ℕ → ℕ → List ℕ
-refusedLine n d = field "refused " n ++ (field " " d ++ text "\n")
+refusedLine n d = field "refused " n ++ field " " d
 
 abbrev pub wanted : Bool → String
-wanted true = " scrub yes\n"
-wanted false = " scrub no\n"
+wanted true = " scrub yes"
+wanted false = " scrub no"
 
 unfoldable pub regionsLine : ℕ → Bool → List ℕ
 regionsLine n scrub = field "regions " n ++ text (wanted scrub)
 
 unfoldable pub eccLine : Option Report → List ℕ
-eccLine none = text "ecc none\n"
-eccLine (some r) = field "ecc " (r .words) ++ (field " " (r .corrected) ++ (field " " (r .uncorrectable) ++ text "\n"))
+eccLine none = text "ecc none"
+eccLine (some r) = field "ecc " (r .words) ++ (field " " (r .corrected) ++ field " " (r .uncorrectable))
 
 unfoldable pub storedLine : ℕ → List ℕ
-storedLine n = field "stored " n ++ text "\n"
+storedLine n = field "stored " n
+
+abbrev pub lineFeed : List ℕ
+lineFeed = text "\n"
+
+-- lines one after the other, each with its line feed
+unfoldable pub lines : List (List ℕ) → List ℕ
+lines [] = []
+lines (l ∷ ls) = l ++ (lineFeed ++ lines ls)
 
 -- ---- report: to standard output
 
-abbrev pub linesOf : Parsed → Option Report → List ℕ
-linesOf (accepted h) s = regionsLine (h .regions) (h .prologueDisagreed || h .directoryDisagreed) ++ eccLine s
-linesOf (refused n d) s = refusedLine n d
+abbrev pub linesOf : Parsed → Option Report → List (List ℕ)
+linesOf (accepted h) s = regionsLine (h .regions) (h .prologueDisagreed || h .directoryDisagreed) ∷ eccLine s ∷ []
+linesOf (refused n d) s = refusedLine n d ∷ []
 
 unfoldable pub reportText : List ℕ → List ℕ
-reportText x = cond (tooLong x) tooLongLine (linesOf (parse x) (scan x))
+reportText x = lines (cond (tooLong x) (tooLongLine ∷ []) (linesOf (parse x) (scan x)))
 
--- ---- scrub: the image to standard output, or no byte; the line to standard error
+-- ---- scrub: the image to standard output, or no byte; one line to standard error
 
-abbrev pub imageOut : Mending → List ℕ
+abbrev pub imageOut : MendAnswer → List ℕ
 imageOut (refusedMend n d) = []
 imageOut (mended y r stored whole) = y
 
-abbrev pub lineOf : Mending → List ℕ
+abbrev pub lineOf : MendAnswer → List ℕ
 lineOf (refusedMend n d) = refusedLine n d
 lineOf (mended y r stored whole) = storedLine stored
 
@@ -80,3 +88,6 @@ scrubImage x = cond (tooLong x) [] (imageOut (mend x))
 
 unfoldable pub scrubLine : List ℕ → List ℕ
 scrubLine x = cond (tooLong x) tooLongLine (lineOf (mend x))
+
+unfoldable pub scrubText : List ℕ → List ℕ
+scrubText x = lines (scrubLine x ∷ [])

@@ -36,6 +36,7 @@ unfoldable pub scrubWords : List Pair → State → State
 scrubWords [] s = s
 scrubWords (p ∷ ps) s = scrubWords ps (scrubWord p s)
 
+-- each visit's words; one visit makes for a report
 unfoldable pub scrubVisits : List Visit → State → State
 scrubVisits [] s = s
 scrubVisits (v ∷ vs) s =

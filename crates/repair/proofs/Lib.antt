@@ -1,9 +1,6 @@
 pub mod OutcomeLaw
-pub mod NthLaw
 pub mod ScrubbingLaw
 pub mod RunLaw
-pub mod ApartLaw
-pub mod SpanLaw
 pub mod SettleLaw
 pub mod AgreeLaw
 pub mod MetLaw

@@ -16,10 +16,9 @@ use Rattle.paper.specs.Scan.{Visit, visitsOver, visits, Pair, Among, pairsFrom,
 use Rattle.paper.specs.Scrub.{visitAt}
 use Rattle.paper.specs.Mend as paper
 use Rattle.paper.specs.Mend.{apartVerdict, mendVerdict, fixAt, fixAll, mendBytes, changed, mend}
-use Rattle.paper.proofs.ParseLaw.{accepted-long}
 use Rattle.paper.proofs.LayoutLaw.{length-directoryOf}
 use Rattle.paper.proofs.ScanLaw.{anyOf, any-append, examined-append, scan-all, visits-append, visits-to}
-use Rattle.view.proofs.SeenLaw.{seen-long}
+use Rattle.view.proofs.SeenLaw.{seen-is}
 use Rattle.laws.specs.Steps.{mendHeader, mendWords}
 use Rattle.laws.proofs.HeaderLaw.{SameHeader, header-kept, same-directory, same-visits}
 use Rattle.laws.proofs.HeaderHalf.{header-keeps, header-verdict, header-size, header-then-words, header-examined, header-word, header-check}
@@ -167,10 +166,6 @@ all-fixed x i h = ap (λ (vs : List Visit). fixAll (examinedIn vs) x) (all-visit
 
 -- ---- of an image that mend accepts
 
-pub seen-is : (x : List ℕ) → parseVerdict x ≡ fine → seen (count x) x ≡ directory x
-unfolding directory
-seen-is x h = seen-long (count x) x (accepted-long x h)
-
 pub scanned-report : (x : List ℕ) → reportedBy (scanned x) ≡ scan x
 unfolding scanned report
 scanned-report x = sym (scan-all x)
@@ -216,6 +211,6 @@ module _ (x : List ℕ) (p : parseVerdict x ≡ fine) where
   unfolding mendVerdict
   apart-fine e = rw (p, e)
 
-pub mend-fine : (x : List ℕ) → mendVerdict x ≡ fine → mend x ≡ paper.mended (mendBytes x) (scan x) (changed x (mendBytes x)) (paper.wholeOf (scan x))
+pub mend-fine : (x : List ℕ) → mendVerdict x ≡ fine → mend x ≡ paper.mended (mendBytes x) (scan x) (changed x (mendBytes x)) (paper.noneUncorrectable (scan x))
 unfolding mend
 mend-fine x v = rw v

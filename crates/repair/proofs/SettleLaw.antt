@@ -16,7 +16,7 @@ use Rattle.paper.specs.Layout.{maj3, count, headerLength, header}
 use Rattle.paper.specs.Mend.{changed}
 use Rattle.paper.proofs.LayoutLaw.{length-header}
 use Rattle.laws.specs.Steps.{mendHeader, copyVote, copyVotes}
-use Rattle.laws.proofs.StoredLaw.{changed-none, changed-append, changed-over}
+use Rattle.laws.proofs.StoredLaw.{changed-nil, changed-short, changed-cons, changed-none, changed-append, changed-over}
 use Rattle.laws.proofs.HeaderHalf.{copyVote-length, copyVotes-length, at-other, votes-others, votes-before, in-place}
 
 -- ---- one byte
@@ -26,17 +26,15 @@ at-most-one true = omega arith
 at-most-one false = omega arith
 
 pub changed-most : (x y : List ℕ) → changed x y ≤ length x
-unfolding changed
-changed-most [] y = omega arith
-changed-most (b ∷ x) [] = omega arith
-changed-most (b ∷ x) (v ∷ y) = omega (arith, changed-most x y, at-most-one (eqb b v))
+changed-most [] y = omega (arith, changed-nil y)
+changed-most (b ∷ x) [] = omega (arith, changed-short b x)
+changed-most (b ∷ x) (v ∷ y) = omega (arith, changed-cons b v x y, changed-most x y, at-most-one (eqb b v))
 
 set-one : (x : List ℕ) (p v : ℕ) → p < length x → changed x (set x p v) ≡ cond (eqb (at x p) v) 0 1
-unfolding changed
 set-one [] p v h = absurd (omega arith)
-set-one (b ∷ x) zero v h = ap (λ (n : ℕ). cond (eqb b v) 0 1 + n) (changed-none x) ∙ add-zero (cond (eqb b v) 0 1)
+set-one (b ∷ x) zero v h = changed-cons b v x x ∙ ap (λ (n : ℕ). cond (eqb b v) 0 1 + n) (changed-none x) ∙ add-zero (cond (eqb b v) 0 1)
 set-one (b ∷ x) (suc p) v h =
-    ap (λ (t : Bool). cond t 0 1 + changed x (set x p v)) (eq-eqb b b refl) ∙ zero-add (changed x (set x p v)) ∙ set-one x p v (omega arith)
+    changed-cons b b x (set x p v) ∙ ap (λ (t : Bool). cond t 0 1 + changed x (set x p v)) (eq-eqb b b refl) ∙ zero-add (changed x (set x p v)) ∙ set-one x p v (omega arith)
 
 -- a byte that was not touched before
 changed-set : (x y : List ℕ) (p v : ℕ) → length y ≡ length x → p < length x → at y p ≡ at x p

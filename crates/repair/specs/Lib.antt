@@ -1,4 +1,3 @@
 pub mod Answers
 pub mod Runs
 pub mod Counting
-pub mod Earlier

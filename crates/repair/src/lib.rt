@@ -1,5 +1,4 @@
 // Repair of an image in place: scrub, after view.rs, and mend.
-mod apart;
 mod mending;
 mod runs;
 mod scrubbing;

@@ -18,14 +18,14 @@ ghost use Rattle.repair.specs.Runs.{visitsAt};
 ghost use Rattle.repair.specs.Answers.{asMended, asMending, leftBy};
 ghost use Rattle.scan.specs.Tally.{asTotals, marked, withClasses, Room};
 ghost use Rattle.repair.specs.Counting.{met, scanned};
-use super::apart::Check;
-use super::apart::check_apart;
 use super::runs::run_of;
 use super::words::fix_word;
 use ecc::CheckTable;
 use ecc::EMPTY_TABLE;
 use ecc::fill_check_table;
+use error::Check;
 use error::Refusal;
+use overlap::check_apart;
 use scalar::maj3;
 use scan::Scan;
 use scan::Tally;
@@ -171,7 +171,7 @@ fn mend_words(bytes: &mut [u8], header: Header) -> Tally
 
 // Nothing is whole without a report.
 fn is_whole(report: Scan) -> bool
-    ensures { λ r. ⌜ r ≡ paper.wholeOf (asScan report) ⌝ }
+    ensures { λ r. ⌜ r ≡ paper.noneUncorrectable (asScan report) ⌝ }
 {
     match report {
         Scan::Report(counts) => counts.uncorrectable == 0,

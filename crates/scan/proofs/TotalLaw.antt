@@ -1,20 +1,19 @@
 -- The totals, region by region. Assumes nothing.
 use mathlib.Core.Path.{_≡_, sym, ap, _∙_}
-use mathlib.Core.Bool.{Bool, true, false, not, cond, and-false, or-true, or-false, or-assoc}
+use mathlib.Core.Bool.{true, false, not, and-false, or-true, or-false, or-assoc}
 use mathlib.Core.List.{List, [], _∷_, _++_}
 use mathlib.Core.Option.{none, some}
 use Prim.Native.Nat.{ℕ, suc, _+_, _^_, _≤_, _<_}
 use native.Mathlib.Numerals.{add-one}
 use native.Mathlib.Omega.{arith}
-use lib.Dec.{ltb}
 use lib.ListN.{length, drop, drop-of-length-le}
 use Rattle.paper.specs.Bytes.{given}
-use Rattle.paper.specs.Layout.{Entry, isPlane, hasParity, headerLength, directoryOf}
+use Rattle.paper.specs.Layout.{Entry, isPlane, hasParity}
 use Rattle.paper.specs.Views.{seen, nth}
 use Rattle.paper.specs.Scan.{Report, report, planeOf, isProtected, Visit, visitWith, visitOf, visitsOver, examinedIn, classesAt, scanOf, scanIn}
 use Rattle.paper.specs.Scrub.{visitAt}
-use Rattle.paper.proofs.LayoutLaw.{length-directoryOf}
 use Rattle.paper.proofs.ScanLaw.{plus, noReport, plus-none, none-plus, plus-assoc, report-append, report-none, anyOf, any-append, examined-append, scan-given, visit-plain, visit-protected, visits-from}
+use Rattle.view.proofs.SeenLaw.{length-seen}
 use Rattle.layout.specs.Regions.{asEntry, regionOf}
 use Rattle.scan.specs.declared.Total.{Total}
 use Rattle.scan.specs.Totals.{Totals, add, Small}
@@ -86,14 +85,6 @@ add-next x all es i t =
     ap (λ (vs : List Visit). add x vs t) (visits-from (length x) all es i)
     ∙ add-append x (visitAt (length x) all (nth i es)) (visitsOver (length x) all (drop (suc i) es)) t
     ∙ ap (λ (k : ℕ). add x (visitsOver (length x) all (drop k es)) (add x (visitAt (length x) all (nth i es)) t)) (sym (add-one i))
-
-pub length-seen : (n : ℕ) (x : List ℕ) → length (seen n x) ≤ n
-unfolding seen
-length-seen n x = go (ltb (length x) (headerLength n))
-  where
-    go : (t : Bool) → length (cond t [] (directoryOf n x)) ≤ n
-    go true = omega arith
-    go false = omega (arith, length-directoryOf n x)
 
 pub add-done : (x : List ℕ) (n i : ℕ) (t : Totals) → n ≤ i → add x (visitsOver (length x) (seen n x) (drop i (seen n x))) t ≡ t
 unfolding visitsOver

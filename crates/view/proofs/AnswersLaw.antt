@@ -17,7 +17,7 @@ use Rattle.view.specs.declared.header.ParseResult.the-variants.{Parsed, 
 use Rattle.view.specs.declared.regions.RegionAt.{RegionAt}
 use Rattle.view.specs.declared.regions.RegionAt.the-variants.{Found, Nothing}
 use Rattle.paper.specs.Refusals.{Verdict, fine, refuse}
-use Rattle.view.specs.Answers.{Answer, fineWith, refusedWith, withCount, foundAs, asParsed}
+use Rattle.view.specs.Answers.{CountAnswer, fineWith, refusedWith, withCount, foundAs, asParsed}
 
 pub counted-fine : (v : Verdict) (n m : ℕ) → fineWith n ≡ withCount v m → v ≡ fine
 counted-fine fine n m e = refl

@@ -10,22 +10,14 @@ use Rattle.tables.proofs.OneAnswer.{one-place}
 use Rattle.view.specs.declared.header.Header.{Header}
 use Rattle.view.specs.declared.header.ParseResult.{ParseResult}
 use Rattle.view.specs.declared.header.ParseResult.the-variants as is
-use Rattle.view.specs.Answers.{asParsed}
+use Rattle.view.specs.Answers.{asHeader, asParsed}
 use Rattle.view.proofs.header.parse.Reads as parse
 use Rattle.view.proofs.header.Header.needs_scrub.Reads as needs-scrub
 use Rattle.view.proofs.regions.region_at.Reads as region-at
 use Rattle.view.proofs.regions.find_region.Reads as find-region
 use Rattle.view.proofs.regions.ecc_for.Reads as ecc-for
 
--- the paper's header of a header, and back
-abbrev plain : Header → paper.Header
-plain h =
-    record {
-      regions = h .«region_count»;
-      prologueDisagreed = h .«prologue_disagreed»;
-      directoryDisagreed = h .«directory_disagreed»;
-    }
-
+-- the header that the paper's stands for
 abbrev coded : paper.Header → Header
 coded h =
     record {
@@ -34,11 +26,11 @@ coded h =
       «directory_disagreed» = h .directoryDisagreed;
     }
 
-pub one-header : (a b : Header) → plain a ≡ plain b → a ≡ b
+pub one-header : (a b : Header) → asHeader a ≡ asHeader b → a ≡ b
 one-header a b e = ap coded e
 
 pub one-parse : (a b : ParseResult) → asParsed a ≡ asParsed b → a ≡ b
-one-parse (is.Parsed g) (is.Parsed h) e = let f : plain g ≡ plain h = cc in ap is.Parsed (one-header g h f)
+one-parse (is.Parsed g) (is.Parsed h) e = let f : asHeader g ≡ asHeader h = cc in ap is.Parsed (one-header g h f)
 one-parse (is.Parsed g) (is.Refused r) e = cc
 one-parse (is.Refused r) (is.Parsed h) e = cc
 one-parse (is.Refused r) (is.Refused q) e = let v : asVerdict r ≡ asVerdict q = cc in ap is.Refused (one-refusal r q v)

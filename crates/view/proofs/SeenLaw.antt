@@ -11,9 +11,12 @@ use lib.Dec.{eqb, ltb}
 use lib.ListN.{length}
 use Rattle.bits.specs.Bit.{bit}
 use Rattle.paper.specs.Bytes.{read}
-use Rattle.paper.specs.Layout.{Entry, headerLength, voted, directoryBytesOf, directoryOf, entries, start, end}
+use Rattle.paper.specs.Refusals.{fine}
+use Rattle.paper.specs.Layout.{Entry, count, headerLength, voted, directoryBytesOf, directoryOf, directory, entries, start, end}
+use Rattle.paper.specs.Parse.{parseVerdict}
 use Rattle.paper.specs.Views.{Range, range, seen, nth, regionAt, firstThat, ofKind, planeFor, findRegion, placeWithin, eccFor}
 use Rattle.paper.proofs.LayoutLaw.{entryIn, noEntry, entry-at, length-directoryOf, kind-in, flags-in, offset-in, words-in, covers-in}
+use Rattle.paper.proofs.ParseLaw.{accepted-long}
 use Rattle.paper.proofs.WalkLaw.{nth-in, nth-past}
 use Rattle.layout.specs.declared.Region.{Region}
 use Rattle.layout.specs.Regions.{regionOf}
@@ -26,6 +29,19 @@ seen-short n x h = rw (lt-ltb (length x) (headerLength n) h)
 pub seen-long : (n : ℕ) (x : List ℕ) → headerLength n ≤ length x → seen n x ≡ directoryOf n x
 unfolding seen
 seen-long n x h = rw (le-ltb (length x) (headerLength n) h)
+
+pub length-seen : (n : ℕ) (x : List ℕ) → length (seen n x) ≤ n
+unfolding seen
+length-seen n x = go (ltb (length x) (headerLength n))
+  where
+    go : (t : Bool) → length (cond t [] (directoryOf n x)) ≤ n
+    go true = omega arith
+    go false = omega (arith, length-directoryOf n x)
+
+-- all of the directory, of an image that parses
+pub seen-is : (x : List ℕ) → parseVerdict x ≡ fine → seen (count x) x ≡ directory x
+unfolding directory
+seen-is x h = seen-long (count x) x (accepted-long x h)
 
 -- ---- by index
 

@@ -8,23 +8,24 @@ use Rattle.view.specs.declared.regions.RegionAt.{RegionAt}
 use Rattle.view.specs.declared.regions.RegionAt.the-variants as found
 use Rattle.paper.specs.Refusals.{Verdict, fine, refuse}
 use Rattle.paper.specs.Parse.{Parsed, accepted, refused}
-use Rattle.error.specs.Refused.{numberOf, detailOf, asVerdict}
+use Rattle.paper.specs.Parse as paper
+use Rattle.error.specs.Refused.{numberOf, detailOf}
 use Rattle.view.specs.declared.header.Header.{Header}
 use Rattle.view.specs.declared.header.ParseResult.{ParseResult}
 use Rattle.view.specs.declared.header.ParseResult.the-variants as parse
-use Rattle.view.specs.declared.header.Check.{Check}
-use Rattle.view.specs.declared.header.Check.the-variants as check
 use Rattle.view.specs.declared.header.Counted.{Counted}
 use Rattle.view.specs.declared.header.Counted.the-variants as counted
 
-abbrev pub asParsed : ParseResult → Parsed
-asParsed (parse.Parsed h) =
-    accepted
-    (record {
+abbrev pub asHeader : Header → paper.Header
+asHeader h =
+    record {
       regions = h .«region_count»;
       prologueDisagreed = h .«prologue_disagreed»;
       directoryDisagreed = h .«directory_disagreed»;
-    })
+    }
+
+abbrev pub asParsed : ParseResult → Parsed
+asParsed (parse.Parsed h) = accepted (asHeader h)
 asParsed (parse.Refused r) = refused (numberOf r) (detailOf r)
 
 -- an entry, as the region that is handed out
@@ -34,19 +35,15 @@ foundAs (some e) = found.Found (regionOf e)
 
 -- ---- steps of code, for private contracts
 
-abbrev pub asCheck : Check → Verdict
-asCheck check.Fine = fine
-asCheck (check.Refuse r) = asVerdict r
-
 -- a verdict, with a count where it is fine
-pub data Answer : Type 0 where
-  fineWith : ℕ → Answer
-  refusedWith : ℕ → ℕ → Answer
+pub data CountAnswer : Type 0 where
+  fineWith : ℕ → CountAnswer
+  refusedWith : ℕ → ℕ → CountAnswer
 
-abbrev pub withCount : Verdict → ℕ → Answer
+abbrev pub withCount : Verdict → ℕ → CountAnswer
 withCount fine n = fineWith n
 withCount (refuse k d) n = refusedWith k d
 
-abbrev pub asCounted : Counted → Answer
+abbrev pub asCounted : Counted → CountAnswer
 asCounted (counted.Count n) = fineWith n
 asCounted (counted.Refuse r) = refusedWith (numberOf r) (detailOf r)

@@ -6,12 +6,14 @@ ghost use lib.ListN.{length, take};
 ghost use Rattle.paper.specs.Layout.{headerLength, prologue, countIn, count, directoryOf, end};
 ghost use Rattle.paper.specs.Parse as paper;
 ghost use Rattle.paper.proofs.LayoutLaw.{entryIn};
-ghost use Rattle.view.specs.Answers.{asCheck, asCounted, withCount, asParsed};
+ghost use Rattle.error.specs.Refused.{asCheck};
+ghost use Rattle.view.specs.Answers.{asCounted, withCount, asParsed};
 ghost use Rattle.view.specs.Kinds.{elem, kindsOf};
 use super::vote::copies_differ;
 use super::vote::voted_checksum;
 use super::vote::voted_u16;
 use super::vote::voted_u32;
+use error::Check;
 use error::Refusal;
 use layout::BOM;
 use layout::FORMAT_VERSION;
@@ -39,13 +41,7 @@ pub enum ParseResult {
     Refused(Refusal),
 }
 
-// What a run of checks says.
-pub(crate) enum Check {
-    Fine,
-    Refuse(Refusal),
-}
-
-// The same, with the number of regions where nothing is refused.
+// What a run of checks says, with the number of regions where nothing is refused.
 pub(crate) enum Counted {
     Count(u16),
     Refuse(Refusal),

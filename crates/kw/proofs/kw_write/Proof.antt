@@ -75,8 +75,8 @@ module _ {M : Type 1} (𝓤 : URA M) (H : Heap 𝓤) (A : Atoms 𝓤) (mem : Mem
   abbrev Numbers : Contract 𝓤
   Numbers = tripleOf 𝓤 H A numbers.signature (numbers.spec 𝓤 H A mem run)
 
-abbrev Answer : RattleType
-Answer = Array u64 1
+abbrev AnswerArray : RattleType
+AnswerArray = Array u64 1
 
 abbrev answerTy : Ty
 answerTy = tyArray (tyInt w64) 1
@@ -147,7 +147,7 @@ module _ {M : Type 1} (𝓤 : URA M) (H : Heap 𝓤) (A : Atoms 𝓤) (W : Given
   outOwn = ‵ (MutSlice (named 2) κ₂ u8 .own y (outVal ∷ []))
 
   abbrev ansOwn : Item 𝓤
-  ansOwn = ‵ (MutRef (named 3) κ₃ Answer .own z (vptr b₃ o₃ ∷ []))
+  ansOwn = ‵ (MutRef (named 3) κ₃ AnswerArray .own z (vptr b₃ o₃ ∷ []))
 
   -- the tokens of the three slices' lifetimes, and of answer's
   abbrev sliceToks : Item 𝓤
@@ -191,7 +191,7 @@ module _ {M : Type 1} (𝓤 : URA M) (H : Heap 𝓤) (A : Atoms 𝓤) (W : Given
   abbrev to-numbers : WriteResult → Val → Numbers 𝓤 H A mem run .Ghost
   to-numbers r w = (((κ₃, tt), (q₃, tt), tt, number-args r, (w ∷ [], (vptr b₃ o₃ ∷ [], tt))), tt)
 
-  numbers-asked : (r : WriteResult) (w : Val) → Is R.the-row r (w ∷ []) → ent 𝓤 (sep 𝓤 (A .lft κ₃ q₃) (sem 𝓤 H A (MutRef (named 3) κ₃ Answer .own z (vptr b₃ o₃ ∷ [])))) (Numbers 𝓤 H A mem run .pre (to-numbers r w))
+  numbers-asked : (r : WriteResult) (w : Val) → Is R.the-row r (w ∷ []) → ent 𝓤 (sep 𝓤 (A .lft κ₃ q₃) (sem 𝓤 H A (MutRef (named 3) κ₃ AnswerArray .own z (vptr b₃ o₃ ∷ [])))) (Numbers 𝓤 H A mem run .pre (to-numbers r w))
   numbers-asked r w is =
       qed W (‵ (flft κ₃ q₃) ∷ ansOwn ∷ []) ∵ nothing ! $ move ! (1 ∷ 0 ∷ []) $ join ! $ nothing ! $ move ! (2 ∷ 0 ∷ []) $ fjoin ! $
       owned ! R.the-row (Is R.the-row) (EL.makes R.the-type R′.the-plain 𝓤 H A) r _ is $ fjoin ! $ move ! (1 ∷ 0 ∷ []) $ join ! $ frame ! $ done !
@@ -200,9 +200,9 @@ module _ {M : Type 1} (𝓤 : URA M) (H : Heap 𝓤) (A : Atoms 𝓤) (W : Given
   Done m ns ws = (m ≡ writeNumber written) × (ns ≡ writeAnswer written) × (ws ≡ bytesAfter written xs)
 
   exits : (m : ℕ) (w : Val) (ns ws : List ℕ) → length ws ≡ length xs → Done m ns ws
-      → ent 𝓤 (⋆ 𝓤 H A (‵ (u32 .own m (w ∷ [])) ∷ ansTok ∷ ‵ (fres γ₃ (Answer .coded .code ns)) ∷ sliceToks ∷ ‵ (finally u8 γ₂ ws) ∷ payOwn ∷ rowsOwn ∷ [])) (Post w)
+      → ent 𝓤 (⋆ 𝓤 H A (‵ (u32 .own m (w ∷ [])) ∷ ansTok ∷ ‵ (fres γ₃ (AnswerArray .coded .code ns)) ∷ sliceToks ∷ ‵ (finally u8 γ₂ ws) ∷ payOwn ∷ rowsOwn ∷ [])) (Post w)
   exits m w ns ws len e =
-      qed W (‵ (u32 .own m (w ∷ [])) ∷ ansTok ∷ ‵ (fres γ₃ (Answer .coded .code ns)) ∷ sliceToks ∷ ‵ (finally u8 γ₂ ws) ∷ payOwn ∷ rowsOwn ∷ []) ∵
+      qed W (‵ (u32 .own m (w ∷ [])) ∷ ansTok ∷ ‵ (fres γ₃ (AnswerArray .coded .code ns)) ∷ sliceToks ∷ ‵ (finally u8 γ₂ ws) ∷ payOwn ∷ rowsOwn ∷ []) ∵
       suffices ! _ (ends-at 𝓤 H A self.ended stayed (self.clauses 𝓤 H A mem run) W (((κ, (κ₁, (κ₂, (κ₃, tt)))), (q, (q₁, (q₂, (q₃, tt)))), tt, a, vals), tt) w m (tt, (tt, (ws, (ns, tt)))) (tt, (tt, (len, (tt, tt))))) $ says ! e $
       move ! (3 ∷ []) $ split ! $ move ! (1 ∷ []) $ split ! $ move ! (1 ∷ []) $ split ! $ move ! (0 ∷ 5 ∷ []) $ join ! $ move ! (2 ∷ 0 ∷ []) $ join ! $ move ! (2 ∷ 0 ∷ []) $ join ! $ frame ! $
       move ! (2 ∷ 0 ∷ []) $ fjoin ! $ move ! (2 ∷ 0 ∷ []) $ fjoin ! $ move ! (2 ∷ 0 ∷ []) $ fjoin ! $ move ! (2 ∷ 0 ∷ []) $ fjoin ! $ frame ! $ done !
@@ -223,7 +223,7 @@ module _ {M : Type 1} (𝓤 : URA M) (H : Heap 𝓤) (A : Atoms 𝓤) (W : Given
       abbrev Stored : List (Item 𝓤)
       Stored = ‵ (froom lentTy l₈ 0) ∷ ‵ (fdies lentTy l₈) ∷ ‵ (froom (sliceTy refTy) l₇ 0) ∷ ‵ (fdies (sliceTy refTy) l₇) ∷ ‵ (froom refTy l₆ 0) ∷ ‵ (fdies refTy l₆) ∷ ‵ (froom R′.mir l₅ 0) ∷ ‵ (fdies R′.mir l₅)
           ∷ ‵ (fat fullShare ansTy l₄ 0 (vptr b₃ o₃)) ∷ ‵ (fdies ansTy l₄) ∷ ‵ (fat fullShare outTy l₃ 0 outVal) ∷ ‵ (fdies outTy l₃) ∷ ‵ (fat fullShare payTy l₂ 0 payVal) ∷ ‵ (fdies payTy l₂) ∷ ‵ (fat fullShare rowsTy l₁ 0 rowsVal) ∷ ‵ (fdies rowsTy l₁)
-          ∷ ‵ (froom number l₀ 0) ∷ ‵ (fdies number l₀) ∷ (‵ (flft κ q) ⊛ ‵ (flft κ₁ q₁) ⊛ ‵ (flft κ₂ q₂) ⊛ ansTok) ∷ ‵ (owns (ShrSlice (named 0) κ T.the-row ∷ ShrSlice (named 1) κ₁ u8 ∷ MutSlice (named 2) κ₂ u8 ∷ MutRef (named 3) κ₃ Answer ∷ []) a vals) ∷ []
+          ∷ ‵ (froom number l₀ 0) ∷ ‵ (fdies number l₀) ∷ (‵ (flft κ q) ⊛ ‵ (flft κ₁ q₁) ⊛ ‵ (flft κ₂ q₂) ⊛ ansTok) ∷ ‵ (owns (ShrSlice (named 0) κ T.the-row ∷ ShrSlice (named 1) κ₁ u8 ∷ MutSlice (named 2) κ₂ u8 ∷ MutRef (named 3) κ₃ AnswerArray ∷ []) a vals) ∷ []
 
       begun : Sq W Stored (runs C Λ En (code.function .body) (atRet En Post))
       begun =
@@ -258,7 +258,7 @@ module _ {M : Type 1} (𝓤 : URA M) (H : Heap 𝓤) (A : Atoms 𝓤) (W : Given
 
     walk : ent 𝓤 (onEntry 𝓤 H A self.signature (κ, (κ₁, (κ₂, (κ₃, tt)))) (q, (q₁, (q₂, (q₃, tt)))) a vals) (WpFn 𝓤 H C Λ code.function (rowsVal ∷ payVal ∷ outVal ∷ vptr b₃ o₃ ∷ []) Post)
     walk =
-        qed W ((‵ (flft κ q) ⊛ ‵ (flft κ₁ q₁) ⊛ ‵ (flft κ₂ q₂) ⊛ ansTok) ∷ ‵ (owns (ShrSlice (named 0) κ T.the-row ∷ ShrSlice (named 1) κ₁ u8 ∷ MutSlice (named 2) κ₂ u8 ∷ MutRef (named 3) κ₃ Answer ∷ []) a vals) ∷ []) ∵
+        qed W ((‵ (flft κ q) ⊛ ‵ (flft κ₁ q₁) ⊛ ‵ (flft κ₂ q₂) ⊛ ansTok) ∷ ‵ (owns (ShrSlice (named 0) κ T.the-row ∷ ShrSlice (named 1) κ₁ u8 ∷ MutSlice (named 2) κ₂ u8 ∷ MutRef (named 3) κ₃ AnswerArray ∷ []) a vals) ∷ []) ∵
         enter ! C Λ code.function (rowsVal ∷ payVal ∷ outVal ∷ vptr b₃ o₃ ∷ []) _ $
         alloc1 ! (λ l₀. alloc1 ! (λ l₁. alloc1 ! (λ l₂. alloc1 ! (λ l₃. alloc1 ! (λ l₄. alloc1 ! (λ l₅. alloc1 ! (λ l₆. alloc1 ! (λ l₇. alloc1 ! (λ l₈. alloc0 ! $ params1 ! $
         pass1 ! (init ! 14 refl (tt, (tt, (record { fits = gr .0 }, tt)))) $ pass1 ! (init ! 12 refl (tt, (tt, (record { fits = gp .0 }, tt)))) $ pass1 ! (init ! 10 refl (tt, (tt, (record { fits = go .0 }, tt)))) $ pass1 ! (init ! 8 refl (tt, tt)) $ pass0 ! $
@@ -267,7 +267,7 @@ module _ {M : Type 1} (𝓤 : URA M) (H : Heap 𝓤) (A : Atoms 𝓤) (W : Given
 module _ {M : Type 1} (𝓤 : URA M) (H : Heap 𝓤) (A : Atoms 𝓤) (W : Given 𝓤 H A) (mem : Memory → SProp 𝓤) (run : Routine → Fun 𝓤) where
   kw-write-walks : (𝓣 : Tables 𝓤 H) → Triple 𝓤 (𝓣 .C #write) (Write 𝓤 H A mem run) → Triple 𝓤 (𝓣 .C #numbers) (Numbers 𝓤 H A mem run) → Walks 𝓤 H A self.ended stayed (WpFn 𝓤 H (𝓣 .C) (𝓣 .Λ) code.function) (self.clauses 𝓤 H A mem run)
   kw-write-walks 𝓣 kw kn = walked 𝓤 H A self.ended stayed (self.clauses 𝓤 H A mem run) (WpFn 𝓤 H (𝓣 .C) (𝓣 .Λ) code.function) (λ κs. (slice-vals, (slice-vals, (slice-vals, (ptr-vals, tt)))))
-      (λ κs. (shr-slice-tells (named 0) (κs .0) T.the-row, (shr-slice-tells (named 1) (κs .1 .0) u8, (mut-slice-tells (named 2) (κs .1 .1 .0) u8, (mut-tells (named 3) (κs .1 .1 .1 .0) Answer, tt)))))
+      (λ κs. (shr-slice-tells (named 0) (κs .0) T.the-row, (shr-slice-tells (named 1) (κs .1 .0) u8, (mut-slice-tells (named 2) (κs .1 .1 .0) u8, (mut-tells (named 3) (κs .1 .1 .1 .0) AnswerArray, tt)))))
       (λ κs qs bounds a g are. via 𝓤 _ (fst∗ 𝓤 _ (emp 𝓤))
       (walk 𝓤 H A W mem run (κs .0) (κs .1 .0) (κs .1 .1 .0) (κs .1 .1 .1 .0) (qs .0) (qs .1 .0) (qs .1 .1 .0) (qs .1 .1 .1 .0) (a .0 .ptr .0) (a .0 .ptr .1) (a .0 .name) (a .0 .now) (a .1 .0 .ptr .0) (a .1 .0 .ptr .1) (a .1 .0 .name) (a .1 .0 .now)
       (a .1 .1 .0 .ptr .0) (a .1 .1 .0 .ptr .1) (a .1 .1 .0 .name) (a .1 .1 .0 .now) (a .1 .1 .1 .0 .ptr .0) (a .1 .1 .1 .0 .ptr .1) (a .1 .1 .1 .0 .name) (a .1 .1 .1 .0 .now) 𝓣 kw kn (are .0 .0 .1) (are .1 .0 .0 .1) (are .1 .1 .0 .0 .1)))

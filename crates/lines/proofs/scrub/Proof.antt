@@ -10,51 +10,60 @@ use Rattle.paper.specs.Programs.{imageOut, lineOf}
 use Rattle.repair.specs.Answers.{asMended}
 use Rattle.repair.specs.declared.mending.MendResult.{MendResult}
 use Rattle.io.proofs.Counting.{counts}
-use Rattle.paper.proofs.ProgramsLaw.{line-long, image-long, line-short, image-short}
-use Rattle.lines.proofs.TextLaw.{line-put, left-long, left-short}
+use Rattle.paper.proofs.ProgramsLaw.{line-long, image-long, line-short, image-short, scrub-text}
+use Rattle.lines.proofs.TextLaw.{put-last-line, text-put, left-long, left-short}
 use Rattle.lines.proofs.scrub.Statement.{statement}
 use Rattle.lines.proofs.scrub.Tie as tie
 
 returns : tie.Need-returns
 returns c =
-    let a = c .before .before .before .before .args in
+    let a = c .before .before .before .before .before .before .args in
     let x = a .image .now in
-    let long = c .before .before .if1 .taken in
-    let l = line-put (a .out .now) _ _ (c .put-too-long .ensures .0) (line-long x long) in
-    (l .0, (l .1, (left-long x long, ((ap length (image-long x long), image-long x long), (counts _ _ (omega (arith, c .put-too-long .ensures .1, c .put-too-long .ensures .0 .long)), counts 0 x zero-le)))))
+    let long = c .before .before .before .before .if1 .taken in
+    let line = c .before .before .put-too-long in
+    let put = put-last-line (a .out .now) 0 _ (line .ensures .0) (c .put-line-feed .ensures .0) in
+    let l = text-put (a .out .now) _ _ put (scrub-text x _ (line-long x long)) in
+    (l .0, (l .1, (left-long x long, ((ap length (image-long x long), image-long x long), (counts _ _ (omega (arith, line .ensures .1, c .put-line-feed .ensures .1, put .long)), counts 0 x zero-le)))))
 
 returns-2 : tie.Need-returns-2
 returns-2 c =
-    let a = c .before .before .before .before .before .before .before .before .before .before .before .args in
+    let a = c .before .before .before .before .before .before .before .before .before .before .before .before .before .args in
     let x = a .image .now in
-    let short = c .before .before .before .before .before .before .before .before .before .if1 .left in
-    let m = c .before .before .before .before .before .before .before .mend in
-    let e = ap (λ (r : MendResult). asMended r (m .last .0)) (sym (c .before .before .before .refusal .given .1)) ∙ m .ensures .0 in
-    let l = line-put (a .out .now) _ _ (c .put-refused .ensures .0) (ap lineOf e ∙ line-short x short) in
+    let short = c .before .before .before .before .before .before .before .before .before .before .before .if1 .left in
+    let m = c .before .before .before .before .before .before .before .before .before .mend in
+    let e = ap (λ (r : MendResult). asMended r (m .last .0)) (sym (c .before .before .before .before .before .refusal .given .1)) ∙ m .ensures .0 in
+    let line = c .before .before .put-refused in
+    let put = put-last-line (a .out .now) 0 _ (line .ensures .0) (c .put-line-feed2 .ensures .0) in
+    let l = text-put (a .out .now) _ _ put (scrub-text x _ (ap lineOf e ∙ line-short x short)) in
     let none = ap imageOut e ∙ image-short x short in
-    (l .0, (l .1, (m .ensures .1 ∙ left-short x short, ((ap length none, none), (counts _ _ (omega (arith, c .put-refused .ensures .1, c .put-refused .ensures .0 .long)), counts 0 (m .last .0) zero-le)))))
+    (l .0, (l .1, (m .ensures .1 ∙ left-short x short, ((ap length none, none), (counts _ _ (omega (arith, line .ensures .1, c .put-line-feed2 .ensures .1, put .long)), counts 0 (m .last .0) zero-le)))))
 
 returns-3 : tie.Need-returns-3
 returns-3 c =
-    let a = c .before .before .before .before .before .before .before .before .before .before .before .args in
+    let a = c .before .before .before .before .before .before .before .before .before .before .before .before .before .args in
     let x = a .image .now in
-    let short = c .before .before .before .before .before .before .before .before .before .if1 .left in
-    let m = c .before .before .before .before .before .before .before .mend in
-    let e = ap (λ (r : MendResult). asMended r (m .last .0)) (sym (c .before .before .before .mending .given .1)) ∙ m .ensures .0 in
-    let l = line-put (a .out .now) _ _ (c .put-stored .ensures .0) (ap lineOf e ∙ line-short x short) in
+    let short = c .before .before .before .before .before .before .before .before .before .before .before .if1 .left in
+    let m = c .before .before .before .before .before .before .before .before .before .mend in
+    let e = ap (λ (r : MendResult). asMended r (m .last .0)) (sym (c .before .before .before .before .before .mending .given .1)) ∙ m .ensures .0 in
+    let line = c .before .before .put-stored in
+    let put = put-last-line (a .out .now) 0 _ (line .ensures .0) (c .put-line-feed3 .ensures .0) in
+    let l = text-put (a .out .now) _ _ put (scrub-text x _ (ap lineOf e ∙ line-short x short)) in
     let all = ap imageOut e ∙ image-short x short in
-    (l .0, (l .1, (m .ensures .1 ∙ left-short x short, ((ap length all, take-all (length (m .last .0)) (m .last .0) (omega arith) ∙ all), (counts _ _ (omega (arith, c .put-stored .ensures .1, c .put-stored .ensures .0 .long)), counts _ _ (omega arith))))))
+    (l .0, (l .1, (m .ensures .1 ∙ left-short x short, ((ap length all, take-all (length (m .last .0)) (m .last .0) (omega arith) ∙ all), (counts _ _ (omega (arith, line .ensures .1, c .put-line-feed3 .ensures .1, put .long)), counts _ _ (omega arith))))))
 
 pub scrub-spec : {M : Type 1} → statement M
 scrub-spec =
     tie.close
     (tie.spec
     (λ c κs. search needs)
+    (λ c κs. search needs)
     returns
     (λ c κs. search needs)
     (λ c. search needs)
     (λ c κs. search needs)
+    (λ c κs. search needs)
     (λ c. search needs)
+    (λ c κs. search needs)
     (λ c κs. search needs)
     (λ c. search needs)
     returns-2

@@ -3,7 +3,7 @@ use mathlib.Core.Path.{_≡_, ap, _∙_}
 use denote.Ref.{now}
 use Rattle.paper.specs.Scan.{scanRegion}
 use Rattle.scan.specs.Answers.{asScan}
-use Rattle.kw_test.specs.Reader.{scanNumbers, entryWith}
+use Rattle.kw_test.specs.Reader.{scanAnswer, entryWith}
 use borrow.Author.Needs.{needs}
 use Rattle.kw_test.proofs.scans.kwt_verify_region.Statement.{statement}
 use Rattle.kw_test.proofs.scans.kwt_verify_region.Tie as tie
@@ -15,7 +15,7 @@ returns c =
     let e : asScan (c .before .verify-region .result)
     ≡ scanRegion (h .result .«region_count») (now (g .bytes)) (entryWith (g .kind) (g .flags) (g .word-offset) (g .word-length) (g .covers)) =
     c .before .verify-region .ensures .0 in
-    c .scan-numbers .ensures ∙ ap scanNumbers e ∙ rw (h .ensures)
+    c .scan-numbers .ensures ∙ ap scanAnswer e ∙ rw (h .ensures)
 
 pub kwt-verify-region-spec : {M : Type 1} → statement M
 kwt-verify-region-spec =

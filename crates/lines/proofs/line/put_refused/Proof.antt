@@ -1,4 +1,4 @@
--- `lines::line::put_refused` meets its contract: two fields and the line end. Assumes nothing.
+-- `lines::line::put_refused` meets its contract: two fields. Assumes nothing.
 use mathlib.Core.Path.{ap₂, subst}
 use mathlib.Core.List.{List}
 use Prim.Native.Nat.{ℕ}
@@ -13,13 +13,12 @@ use Rattle.lines.proofs.line.put_refused.Tie as tie
 returns : tie.Need-returns
 unfolding refusedLine field text
 returns c =
-    let out = c .before .before .before .before .before .before .before .before .before .before .before .before .before .before .before .before .before .before .args .out .now in
-    let number = c .before .before .before .before .before .before .before .before .before .before .before .before .before .put-field in
-    let detail = c .before .before .before .before .before .before .before .put-field2 in
-    let all = c .before .before .put-bytes in (
-      subst (λ (x : List ℕ). Put out 0 x (all .result) (all .last .0)) (ap₂ refusedLine (c .before .before .before .before .before .before .before .before .before .before .before .before .before .before .number .ensures) (c .before .before .before .before .before .before .before .before .detail .ensures))
-          (put-two out 0 _ _ (number .ensures .0) (put-two (number .last .0) (number .result) _ _ (detail .ensures .0) (all .ensures))),
-      omega (arith, number .ensures .1, detail .ensures .1, all .ensures .behind),
+    let a = c .before .before .before .before .before .before .before .before .before .before .before .before .before .args in
+    let number = c .before .before .before .before .before .before .before .before .put-field in
+    let detail = c .before .before .put-field2 in (
+      subst (λ (x : List ℕ). Put (a .out .now) (a .at) x (detail .result) (detail .last .0)) (ap₂ refusedLine (c .before .before .before .before .before .before .before .before .before .number .ensures) (c .before .before .before .detail .ensures))
+          (put-two (a .out .now) (a .at) _ _ (number .ensures .0) (detail .ensures .0)),
+      omega (arith, number .ensures .1, detail .ensures .1),
     )
 
 pub put-refused-spec : {M : Type 1} → statement M
@@ -32,8 +31,6 @@ put-refused-spec =
     (λ c κs. search needs)
     (λ c. search needs)
     (λ c κs. search needs)
-    (λ c κs. search needs)
-    (λ c. search needs)
     (λ c κs. search needs)
     (λ c. search needs)
     returns)

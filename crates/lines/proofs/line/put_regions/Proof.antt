@@ -12,22 +12,22 @@ use Rattle.lines.proofs.line.put_regions.Tie as tie
 returns : tie.Need-returns
 unfolding regionsLine field text
 returns c =
-    let out = c .before .before .before .before .before .before .before .before .before .before .before .before .args .out .now in
+    let a = c .before .before .before .before .before .before .before .before .before .before .before .before .args in
     let count = c .before .before .before .before .before .before .before .before .put-field in
     let all = c .before .before .put-bytes in (
-      subst (λ (b : Bool). Put out 0 (regionsLine (c .before .before .before .before .before .before .before .before .before .before .before .before .args .region-count) b) (all .result) (all .last .0)) (sym (c .before .before .before .before .before .if1 .taken))
-          (put-two out 0 _ _ (count .ensures .0) (all .ensures)),
+      subst (λ (b : Bool). Put (a .out .now) (a .at) (regionsLine (a .region-count) b) (all .result) (all .last .0)) (sym (c .before .before .before .before .before .if1 .taken))
+          (put-two (a .out .now) (a .at) _ _ (count .ensures .0) (all .ensures)),
       omega (arith, count .ensures .1, all .ensures .behind),
     )
 
 returns-2 : tie.Need-returns-2
 unfolding regionsLine field text
 returns-2 c =
-    let out = c .before .before .before .before .before .before .before .before .before .before .before .before .args .out .now in
+    let a = c .before .before .before .before .before .before .before .before .before .before .before .before .args in
     let count = c .before .before .before .before .before .before .before .before .put-field in
     let all = c .before .before .put-bytes2 in (
-      subst (λ (b : Bool). Put out 0 (regionsLine (c .before .before .before .before .before .before .before .before .before .before .before .before .args .region-count) b) (all .result) (all .last .0)) (sym (c .before .before .before .before .before .if1 .left))
-          (put-two out 0 _ _ (count .ensures .0) (all .ensures)),
+      subst (λ (b : Bool). Put (a .out .now) (a .at) (regionsLine (a .region-count) b) (all .result) (all .last .0)) (sym (c .before .before .before .before .before .if1 .left))
+          (put-two (a .out .now) (a .at) _ _ (count .ensures .0) (all .ensures)),
       omega (arith, count .ensures .1, all .ensures .behind),
     )
 

@@ -23,7 +23,7 @@ returns c =
     let x = now (c .before .before .before .before .before .before .args .bytes) in
     let f = c .before .refusal .given in
     let e = mend-refused x _ _ (parsed-refused x (r .result) (r .ensures) (f .0 .0) (f .1)) in
-    (sym e, ap (λ (m : paper.Mending). leftBy m x) (sym e))
+    (sym e, ap (λ (m : paper.MendAnswer). leftBy m x) (sym e))
 
 pub mend-spec : {M : Type 1} → statement M
 mend-spec =

@@ -71,7 +71,7 @@ returns c =
     let left : w .last .0 ≡ mendBytes x = w .ensures .0 ∙ ap mendWords (h .ensures .0) ∙ mended-all x v bx in (
       ap₂ (λ (y : List ℕ) (o : Option Report). paper.mended y o (h .result + w .result .report .corrected) (c .is-whole .result)) left told
           ∙ ap₂ (λ (n : ℕ) (t : Bool). paper.mended (mendBytes x) (scan x) n t)
-          (stored x (h .last .0) v bx (h .result) (h .ensures .0) (h .ensures .1) (asTotals (w .result)) (w .ensures .1)) (c .is-whole .ensures ∙ ap paper.wholeOf told)
+          (stored x (h .last .0) v bx (h .result) (h .ensures .0) (h .ensures .1) (asTotals (w .result)) (w .ensures .1)) (c .is-whole .ensures ∙ ap paper.noneUncorrectable told)
           ∙ sym (mend-fine x v),
       left,
     )

@@ -9,8 +9,9 @@ use Rattle.paper.specs.Layout.{count}
 use Rattle.paper.specs.Mend as paper
 use Rattle.paper.proofs.ParseLaw.{accepted-few}
 use Rattle.repair.specs.Answers.{leftBy}
-use Rattle.repair.specs.Earlier.{asCheck}
-use Rattle.repair.proofs.MendingLaw.{seen-is, apart-refused, apart-fine, mend-fine}
+use Rattle.error.specs.Refused.{asCheck}
+use Rattle.view.proofs.SeenLaw.{seen-is}
+use Rattle.repair.proofs.MendingLaw.{apart-refused, apart-fine, mend-fine}
 use Rattle.paper.specs.Views.{seen}
 use Rattle.repair.proofs.mending.mend_parsed.Statement.{statement}
 use Rattle.repair.proofs.mending.mend_parsed.Tie as tie
@@ -31,7 +32,7 @@ returns c =
     let s = c .before .before .before .before .before .before in
     let x = now (s .args .bytes) in
     let e = apart-refused x (s .pre .1) _ _ (sym (ap asCheck (sym (c .before .refusal .given .1)) ∙ k .ensures ∙ ap (λ (n : ℕ). paper.apartVerdict n 0 [] (seen n x)) (s .pre .0) ∙ ap (paper.apartVerdict (count x) 0 []) (seen-is x (s .pre .1)))) in
-    (sym e, ap (λ (m : paper.Mending). leftBy m x) (sym e))
+    (sym e, ap (λ (m : paper.MendAnswer). leftBy m x) (sym e))
 
 returns-2 : tie.Need-returns-2
 returns-2 c =
@@ -40,7 +41,7 @@ returns-2 c =
     let s = c .before .before .before .before .before .before .before .before .before in
     let x = now (s .args .bytes) in
     let v = apart-fine x (s .pre .1) (sym (ap asCheck (sym (c .before .before .before .before .enum-told .given .1)) ∙ k .ensures ∙ ap (λ (n : ℕ). paper.apartVerdict n 0 [] (seen n x)) (s .pre .0) ∙ ap (paper.apartVerdict (count x) 0 []) (seen-is x (s .pre .1)))) in
-    (m .ensures .0, m .ensures .1 ∙ ap (λ (q : paper.Mending). leftBy q x) (sym (mend-fine x v)))
+    (m .ensures .0, m .ensures .1 ∙ ap (λ (q : paper.MendAnswer). leftBy q x) (sym (mend-fine x v)))
 
 pub mend-parsed-spec : {M : Type 1} → statement M
 mend-parsed-spec =

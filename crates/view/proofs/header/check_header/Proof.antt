@@ -10,13 +10,13 @@ use Rattle.paper.specs.Parse.{prologueVerdict, parseVerdict, entriesVerdict}
 use Rattle.paper.proofs.ParseLaw.{too-short, prologue-refused, header-past, entries-say, accepted-count}
 use Rattle.paper.specs.Refusals.{fine}
 use Rattle.error.specs.declared.Refusal.{Refusal}
-use Rattle.error.specs.Refused.{numberOf, detailOf}
+use Rattle.error.specs.declared.Check.{Check}
+use Rattle.error.specs.declared.Check.the-variants.{Fine}
+use Rattle.error.specs.declared.Check.the-variants as check
+use Rattle.error.specs.Refused.{numberOf, detailOf, asCheck}
 use Rattle.view.specs.declared.header.Counted.{Counted}
 use Rattle.view.specs.declared.header.Counted.the-variants.{Count, Refuse}
-use Rattle.view.specs.declared.header.Check.{Check}
-use Rattle.view.specs.declared.header.Check.the-variants.{Fine}
-use Rattle.view.specs.declared.header.Check.the-variants as check
-use Rattle.view.specs.Answers.{asCounted, asCheck, withCount, refusedWith, fineWith}
+use Rattle.view.specs.Answers.{asCounted, withCount, refusedWith, fineWith}
 use Rattle.view.proofs.AnswersLaw.{counted-fine, counted-count, counted-refused, with-fine, with-refused}
 use borrow.Author.Needs.{needs}
 use Rattle.view.proofs.header.check_header.Statement.{statement}

@@ -11,8 +11,8 @@ use denote.Slice.{slice-vals, shr-slice-tells}
 use denote.Struct.Laws as LL
 use Rattle.held.proofs.plane.EccPlane as T
 use Rattle.held.proofs.plane.EccPlane.Laws as T′
-use Rattle.ecc.proofs.EccReport as Answer
-use Rattle.ecc.proofs.EccReport.Laws as Answer′
+use Rattle.ecc.proofs.EccReport as Result
+use Rattle.ecc.proofs.EccReport.Laws as Result′
 use Rattle.ecc.proofs.plane_scan as callee
 use Rattle.ecc.proofs.plane_scan.Symbol as callee-def
 use Rattle.ecc.proofs.plane_scan.Symbol.{name as #callee}
@@ -37,4 +37,4 @@ scan-spec 𝓤 H 𝓜 𝓖 𝓡 =
     #callee callee-def.routine code.calls-ecc·plane-scan (callee-thm.met 𝓤 H 𝓜 𝓖 𝓡) κs qs
     (plane-over 𝓤 H 𝓜 𝓖 𝓡 code.env (me.signature .result) (SliceRefOf (1 ∷ []) tt (plain (λ κs. u8)) (λ κs. tt) ∷ []) (yes, tt) (me.clauses 𝓤 H (𝓖 .A) (𝓜 .mem) (𝓡 .run)) (callee.clauses 𝓤 H (𝓖 .A) (𝓜 .mem) (𝓡 .run)) κs (a .0) (a .1) (bytesVal (a .1 .0) ∷ [], tt) g (tt, tt) (tt, tt) tt
     (id⊢ 𝓤 _) (λ r ws. id⊢ 𝓤 _))
-    Answer′.mir (λ r u is. LL.lawful Answer.the-type Answer′.the-laws 𝓤 H (𝓖 .A) (givenOf 𝓤 H 𝓜 𝓖) .typed r _ is .0) (plane 𝓤 H 𝓜 𝓖 (a .0) typed) (slice 𝓤 H 𝓜 𝓖 (named 1) (κs .1 .0) (a .1 .0) (are .1 .0)) (plane-parity 𝓤 H 𝓜 𝓖 (a .0) typed) refl)
+    Result′.mir (λ r u is. LL.lawful Result.the-type Result′.the-laws 𝓤 H (𝓖 .A) (givenOf 𝓤 H 𝓜 𝓖) .typed r _ is .0) (plane 𝓤 H 𝓜 𝓖 (a .0) typed) (slice 𝓤 H 𝓜 𝓖 (named 1) (κs .1 .0) (a .1 .0) (are .1 .0)) (plane-parity 𝓤 H 𝓜 𝓖 (a .0) typed) refl)

@@ -9,20 +9,20 @@ use native.Mathlib.Omega.{arith}
 use borrow.Author.Tests.{lt-ltb, le-ltb}
 use lib.Dec.{ltb}
 use lib.ListN.{length, drop, drop-of-length-le}
-use Rattle.scan.proofs.TotalLaw.{length-seen}
+use Rattle.view.proofs.SeenLaw.{length-seen}
 use Rattle.paper.specs.Refusals.{overlappingRegions, Verdict, fine, refuse, _then_, refuseIf}
 use Rattle.paper.specs.Layout.{Entry, headerLength}
 use Rattle.paper.specs.Views.{nth, seen, regionAt}
 use Rattle.paper.specs.Mend.{meets, meetsAny, inHeader, apartVerdict}
 use Rattle.layout.specs.declared.Region.{Region}
 use Rattle.layout.specs.Regions.{asEntry, regionOf}
+use Rattle.paper.proofs.WalkLaw.{nth-gone, nth-there}
 use Rattle.view.specs.Answers.{foundAs}
 use Rattle.view.specs.declared.regions.RegionAt.{RegionAt}
 use Rattle.view.specs.declared.regions.RegionAt.the-variants as is
 use Rattle.view.proofs.AnswersLaw.{found-some, found-none}
 use Rattle.laws.proofs.VerdictLaw.{and-false, or-none}
-use Rattle.repair.proofs.NthLaw.{nth-gone, nth-there}
-use Rattle.repair.specs.Earlier.{before, earlierOf, highest}
+use Rattle.overlap.specs.Earlier.{before, earlierOf, highest}
 
 -- ---- two regions
 

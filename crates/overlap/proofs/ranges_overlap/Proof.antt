@@ -1,8 +1,8 @@
--- `repair::apart::touches` meets its contract. Assumes nothing.
+-- `overlap::ranges_overlap` meets its contract. Assumes nothing.
 use native.Mathlib.Omega.{arith}
 use borrow.Author.Tests.{le-leb, lt-leb}
-use Rattle.repair.proofs.apart.touches.Statement.{statement}
-use Rattle.repair.proofs.apart.touches.Tie as tie
+use Rattle.overlap.proofs.ranges_overlap.Statement.{statement}
+use Rattle.overlap.proofs.ranges_overlap.Tie as tie
 
 returns : tie.Need-returns
 returns c = let g = c .before .args in (rw (lt-leb (g .first) (g .end) (omega arith)), omega arith)
@@ -17,5 +17,5 @@ returns-3 c =
     let g = c .before .before .args in
     (rw (le-leb (g .first) (g .end) (omega arith), le-leb (g .start) (g .last) (omega arith)), omega arith)
 
-pub touches-spec : {M : Type 1} → statement M
-touches-spec = tie.close (tie.spec returns returns-2 returns-3)
+pub ranges-overlap-spec : {M : Type 1} → statement M
+ranges-overlap-spec = tie.close (tie.spec returns returns-2 returns-3)

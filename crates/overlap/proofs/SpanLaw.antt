@@ -21,8 +21,8 @@ use Rattle.view.specs.Answers.{foundAs}
 use Rattle.view.specs.declared.regions.RegionAt.{RegionAt}
 use Rattle.view.specs.declared.regions.RegionAt.the-variants as is
 use Rattle.view.proofs.AnswersLaw.{found-some}
-use Rattle.repair.proofs.ApartLaw.{empty-right, starts-past, meets-else}
-use Rattle.repair.specs.Earlier.{before, earlierOf, lastWord, touched, SpanOf, Spans}
+use Rattle.overlap.proofs.ApartLaw.{empty-right, starts-past, meets-else}
+use Rattle.overlap.specs.Earlier.{before, earlierOf, lastWord, touched, SpanOf, Spans}
 
 -- ---- the last word
 

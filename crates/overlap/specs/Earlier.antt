@@ -6,16 +6,8 @@ use mathlib.Core.Option.{Option, none, some}
 use Prim.Native.Nat.{ℕ, zero, suc, _+_, _-_, _^_, _<_, max}
 use lib.Dec.{eqb, ltb, leb}
 use Rattle.paper.specs.Bytes.{at}
-use Rattle.paper.specs.Refusals.{Verdict, fine}
 use Rattle.paper.specs.Layout.{Entry}
 use Rattle.paper.specs.Views.{nth}
-use Rattle.error.specs.Refused.{asVerdict}
-use Rattle.repair.specs.declared.apart.Check.{Check}
-use Rattle.repair.specs.declared.apart.Check.the-variants.{Fine, Refuse}
-
-abbrev pub asCheck : Check → Verdict
-asCheck Fine = fine
-asCheck (Refuse r) = asVerdict r
 
 abbrev pub before : Option Entry → List Entry → List Entry
 before none es = es

@@ -9,7 +9,7 @@ use Rattle.paper.specs.Bytes.{at, wordAt, Bytes}
 use Rattle.paper.specs.Refusals.{Verdict, fine, refuse}
 use Rattle.paper.specs.Parity.{Class, decode}
 use Rattle.paper.specs.Scan.{Pair, Among, here, later, total, classAt, classesAt, Report, scan}
-use Rattle.paper.specs.Mend.{mendVerdict, Mended, mendBytes, changed, wholeOf, mended, mendAs, mend}
+use Rattle.paper.specs.Mend.{mendVerdict, MendRule, mendBytes, changed, whole, mended, mendAs, mend}
 use Rattle.laws.proofs.MendLaw.{meets-rule}
 
 pub record Mends (x y : List ℕ) (r : Option Report) (k : ℕ) (t : Bool) : Type 0 where
@@ -17,8 +17,8 @@ pub record Mends (x y : List ℕ) (r : Option Report) (k : ℕ) (t : Bool) : Typ
   pub bytes : mendBytes x ≡ y
   pub report : scan x ≡ r
   pub stored : changed x y ≡ k
-  pub whole : wholeOf r ≡ t
-  pub rule : Mended x y
+  pub isWhole : whole x ≡ t
+  pub rule : MendRule x y
 
 pub mends : (x y : List ℕ) (r : Option Report) (k : ℕ) (t : Bool) → Bytes x → mend x ≡ mended y r k t → Mends x y r k t
 unfolding mend
@@ -29,14 +29,14 @@ mends x y r k t b h = go (mendVerdict x) refl h
         let a : mendBytes x ≡ y = cc in
         let s : scan x ≡ r = cc in
         let c : changed x (mendBytes x) ≡ k = cc in
-        let d : wholeOf (scan x) ≡ t = cc in
+        let d : whole x ≡ t = cc in
         record {
           verdict = e;
           bytes = a;
           report = s;
           stored = ap (changed x) (sym a) ∙ c;
-          whole = ap wholeOf (sym s) ∙ d;
-          rule = subst (Mended x) a (meets-rule x e b);
+          isWhole = d;
+          rule = subst (MendRule x) a (meets-rule x e b);
         }
     go (refuse n d) e g = let z : _≡_ {A = ℕ} 0 1 = cc in absurd (omega arith)
 

@@ -1,14 +1,14 @@
--- `repair::apart::meets_spans` meets its contract. The invariant: there are hits if an entry passed is met. Assumes nothing.
+-- `overlap::overlaps_any` meets its contract. The invariant: there are hits if an entry passed is met. Assumes nothing.
 use mathlib.Core.Path.{_≡_, ap, _∙_}
 use mathlib.Core.Bool.{not}
 use Prim.Native.Nat.{_-_, _≤_}
 use native.Mathlib.Omega.{arith}
 use denote.Ref.{now}
 use lib.Dec.{eqb}
-use Rattle.repair.specs.Earlier.{touched}
-use Rattle.repair.proofs.SpanLaw.{none-touched, touched-next}
-use Rattle.repair.proofs.apart.meets_spans.Statement.{statement}
-use Rattle.repair.proofs.apart.meets_spans.Tie as tie
+use Rattle.overlap.specs.Earlier.{touched}
+use Rattle.overlap.proofs.SpanLaw.{none-touched, touched-next}
+use Rattle.overlap.proofs.overlaps_any.Statement.{statement}
+use Rattle.overlap.proofs.overlaps_any.Tie as tie
 
 abbrev Inv-loop : tie.InvT-loop
 Inv-loop spans n first last hits₀ j₀ hits j = (j ≤ n) × (hits ≤ j) × (not (eqb hits 0) ≡ touched first last spans j)
@@ -23,7 +23,7 @@ loop-again : tie.Need-loop-again Inv-loop μ-loop
 loop-again c =
     let l = c .before .before .before .before .loop in
     let g = c .before .before .before .before .before .args in
-    let t = c .touches in
+    let t = c .ranges-overlap in
     (omega arith, omega (arith, t .ensures .1), touched-next (g .first) (g .last) (now (g .spans)) (l .j) (l .hits) (t .result) (l .inv .2) (t .ensures .0))
 
 returns : tie.Need-returns Inv-loop μ-loop
@@ -33,8 +33,8 @@ returns c =
     let e : l .j ≡ g .n = omega arith in
     l .inv .2 ∙ ap (touched (g .first) (g .last) (now (g .spans))) e
 
-pub meets-spans-spec : {M : Type 1} → statement M
-meets-spans-spec =
+pub overlaps-any-spec : {M : Type 1} → statement M
+overlaps-any-spec =
     tie.close
     (tie.spec
     Inv-loop
@@ -46,7 +46,7 @@ meets-spans-spec =
     (λ c. omega arith)
     (λ c. omega arith)
     (λ c κs. omega arith)
-    (λ c. omega (arith, c .touches .ensures .1))
+    (λ c. omega (arith, c .ranges-overlap .ensures .1))
     (λ c. omega arith)
     (λ c. omega arith)
     loop-again

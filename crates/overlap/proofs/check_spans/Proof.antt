@@ -1,15 +1,15 @@
--- `repair::apart::check_spans` meets its contract. The invariant: the entries before i are held as spans, and what is left to check decides. Assumes nothing.
+-- `overlap::check_spans` meets its contract. The invariant: the entries before i are held as spans, and what is left to check decides. Assumes nothing.
 use mathlib.Core.Path.{_≡_, refl, sym, ap, ap₂, _∙_, subst}
 use Prim.Native.Nat.{max, ℕ, suc, _+_, _-_, _≤_}
 use native.Mathlib.Omega.{arith}
 use denote.Ref.{now}
 use lib.ListN.{length, set, length-set}
 use Rattle.paper.specs.Views.{seen}
-use Rattle.repair.specs.Earlier.{earlierOf, highest, Spans}
-use Rattle.repair.proofs.ApartLaw.{checksFrom, checks-start, checks-gone, checks-refuse, checks-next, checks-done, highest-next, none-yet}
-use Rattle.repair.proofs.SpanLaw.{spans-next}
-use Rattle.repair.proofs.apart.check_spans.Statement.{statement}
-use Rattle.repair.proofs.apart.check_spans.Tie as tie
+use Rattle.overlap.specs.Earlier.{earlierOf, highest, Spans}
+use Rattle.overlap.proofs.ApartLaw.{checksFrom, checks-start, checks-gone, checks-refuse, checks-next, checks-done, highest-next, none-yet}
+use Rattle.overlap.proofs.SpanLaw.{spans-next}
+use Rattle.overlap.proofs.check_spans.Statement.{statement}
+use Rattle.overlap.proofs.check_spans.Tie as tie
 
 abbrev Inv-loop : tie.InvT-loop
 Inv-loop bytes header spans₀ n high₀ i₀ spans high i = (i ≤ header .«region_count») × (length spans ≡ 2048) × (high ≡ highest (earlierOf (seen (header .«region_count») bytes) i)) × (checksFrom (header .«region_count») (seen (header .«region_count») bytes) i ≡ checksFrom (header .«region_count») (seen (header .«region_count») bytes) 0) × Spans (seen (header .«region_count») bytes) i spans
@@ -32,7 +32,7 @@ returns c =
 
 returns-2 : tie.Need-returns-2 Inv-loop μ-loop
 returns-2 c =
-    let o = c .before .collides in
+    let o = c .before .is-misplaced in
     let f = c .before .before .before .before .found .given in
     let r = c .before .before .before .before .before .before .region-at in
     let l = c .before .before .before .before .before .before .before .before .loop in
@@ -44,7 +44,7 @@ returns-2 c =
 loop-again : tie.Need-loop-again Inv-loop μ-loop
 loop-again c =
     let w = c .before .before .last-word in
-    let o = c .before .before .before .before .collides in
+    let o = c .before .before .before .before .is-misplaced in
     let f = c .before .before .before .before .before .before .before .found .given in
     let r = c .before .before .before .before .before .before .before .before .before .region-at in
     let l = c .before .before .before .before .before .before .before .before .before .before .before .loop in
@@ -56,12 +56,12 @@ loop-again c =
     let e : suc (l .i) ≡ l .i + 1 = omega arith in (
       omega arith,
       simp length-set (l .inv .1),
-      c .most .ensures ∙ ap₂ max (c .before .past .ensures .0) (l .inv .2)
+      c .max .ensures ∙ ap₂ max (c .before .end-word .ensures .0) (l .inv .2)
           ∙ sym (highest-next n (now (g .bytes)) (l .i) (r .result) (r .ensures) (f .0 .0) (f .1) (o .result) hit) ∙ ap (λ (k : ℕ). highest (earlierOf es k)) e,
       ap (checksFrom n es) (sym e) ∙ sym (checks-next n (now (g .bytes)) (l .i) (r .result) (r .ensures) (f .0 .0) (f .1) (o .result) hit (c .before .before .before .if1 .left)) ∙ l .inv .3,
       subst (λ (k : ℕ). Spans es k (set (set (l .spans) (l .i) (f .0 .0 .«word_offset»)) (1024 + l .i) (w .result))) e
           (spans-next es (l .spans) (l .i) (l .inv .4) (omega arith) (l .inv .1) n (now (g .bytes)) refl (r .result) (r .ensures) (f .0 .0) (f .1)
-          (c .before .past .ensures .1) (f .0 .0 .«word_offset») (w .result) refl (w .ensures)),
+          (c .before .end-word .ensures .1) (f .0 .0 .«word_offset») (w .result) refl (w .ensures)),
     )
 
 returns-3 : tie.Need-returns-3 Inv-loop μ-loop

@@ -1,0 +1,2 @@
+pub mod ApartLaw
+pub mod SpanLaw
