@@ -43,8 +43,8 @@ use Rattle.laws.proofs.PlacementLaw as placed
 use Rattle.error.specs.Refused.{numberOf, detailOf}
 use Rattle.error.specs.declared.Refusal.{Refusal}
 use Rattle.error.proofs.OneAnswer.{one-refusal}
-use Rattle.scan.specs.declared.Scan.{Scan}
-use Rattle.scan.specs.declared.Scan.the-variants as scan-says
+use Rattle.scan.specs.declared.ScanResult.{ScanResult}
+use Rattle.scan.specs.declared.ScanResult.the-variants as scan-says
 use Rattle.writer.specs.declared.plan.Row.{Row}
 use Rattle.writer.specs.declared.sizes.WriteResult.the-variants as write-says
 use Rattle.repair.specs.declared.mending.MendResult.the-variants as mend-says
@@ -79,7 +79,7 @@ pub refused-plan : (rows : List Row) (payload out : List ℕ) (r : Refusal) (aft
 refused-plan = run.plan-refused
 
 -- A scrub of an image that parse refuses says nothing and leaves every byte as it was.
-pub refused-scrub : (x : List ℕ) (n d : ℕ) → parse x ≡ refused n d → (r : Scan) (y : List ℕ) → ScrubsTo x r y → (r ≡ scan-says.Nothing) × (y ≡ x)
+pub refused-scrub : (x : List ℕ) (n d : ℕ) → parse x ≡ refused n d → (r : ScanResult) (y : List ℕ) → ScrubsTo x r y → (r ≡ scan-says.Nothing) × (y ≡ x)
 refused-scrub = run.scrub-refused
 
 -- "Only the Rust's own scrub may refuse after writing": where scrub says nothing, every byte is as it was, or the bytes that it left are refused by parse.

@@ -18,7 +18,7 @@ use Rattle.paper.specs.Mend.{LaidApart, FirstMisplaced, MendRule, changed, whol
 use Rattle.error.specs.declared.Refusal.the-variants.{OverlappingRegions}
 use Rattle.repair.proofs.OneAnswer.{one-mend}
 use Rattle.scan.specs.Answers.{asScan}
-use Rattle.scan.specs.declared.Scan.{Scan}
+use Rattle.scan.specs.declared.ScanResult.{ScanResult}
 use Rattle.scan.proofs.OneAnswer.{one-scan}
 use Rattle.writer.specs.Answers.{asPlan}
 use Rattle.writer.specs.declared.plan.Row.{Row}
@@ -121,7 +121,7 @@ module _ (x : List ℕ) (bytes : Bytes x) (m : answer.Mending) (y : List ℕ) (m
   fresh-check = demands.fresh-check x y (asScan (m .report)) (m .stored) (m .whole) bytes (run.mended x m y mends)
 
   -- A scrub of the same image answers mend's report. Its bytes are mend's outside header and check bytes, and as given there.
-  pub scrub-agrees : (r : Scan) (z : List ℕ) → ScrubsTo x r z
+  pub scrub-agrees : (r : ScanResult) (z : List ℕ) → ScrubsTo x r z
       → (r ≡ m .report)
       × (length z ≡ length y)
       × ((p : ℕ) → headerLength (count x) ≤ p → ((q c : ℕ) → Protected x q c → c ≡ p → ⊥) → at z p ≡ at y p)
@@ -140,5 +140,5 @@ module _ (x : List ℕ) (bytes : Bytes x) (m : answer.Mending) (y : List ℕ) (m
 -- ---- scrub of any x answered r and left y
 
 -- A byte that changed lay, at that moment, in a word of a protected region, and the word's syndrome was the column of the data bit that it holds.
-pub scrub-touches : (x : List ℕ) → Bytes x → (r : Scan) (y : List ℕ) → ScrubsTo x r y → (b : ℕ) → (at y b ≡ at x b → ⊥) → Changes x b
+pub scrub-touches : (x : List ℕ) → Bytes x → (r : ScanResult) (y : List ℕ) → ScrubsTo x r y → (b : ℕ) → (at y b ≡ at x b → ⊥) → Changes x b
 scrub-touches x bytes r y scrubs b n = demands.scrub-touches x bytes b (λ e. n (ap (λ (v : List ℕ). at v b) (scrubs .leaves) ∙ e))

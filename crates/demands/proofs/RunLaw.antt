@@ -16,8 +16,8 @@ use Rattle.paper.specs.Writer as plan
 use Rattle.error.specs.Refused.{numberOf, detailOf}
 use Rattle.error.specs.declared.Refusal.{Refusal}
 use Rattle.scan.specs.Answers.{asScan}
-use Rattle.scan.specs.declared.Scan.{Scan}
-use Rattle.scan.specs.declared.Scan.the-variants as scan-says
+use Rattle.scan.specs.declared.ScanResult.{ScanResult}
+use Rattle.scan.specs.declared.ScanResult.the-variants as scan-says
 use Rattle.scan.proofs.OneAnswer.{one-scan}
 use Rattle.writer.specs.Answers.{asRow, asPlan, answerOf, bytesAfter, wrote}
 use Rattle.writer.specs.Answers as plan-answer
@@ -98,7 +98,7 @@ plan-refused rows payload out r after u = u .leaves ∙ plan-as (plan.write (asP
 
 -- ---- scrub says nothing
 
-pub scrub-refused : (x : List ℕ) (n d : ℕ) → parse x ≡ refused n d → (r : Scan) (y : List ℕ) → ScrubsTo x r y → (r ≡ scan-says.Nothing) × (y ≡ x)
+pub scrub-refused : (x : List ℕ) (n d : ℕ) → parse x ≡ refused n d → (r : ScanResult) (y : List ℕ) → ScrubsTo x r y → (r ≡ scan-says.Nothing) × (y ≡ x)
 scrub-refused x n d e r y u =
     let s = steps.refused-scrub x n d e in
     (one-scan r scan-says.Nothing (u .answer ∙ ap (λ (z : scrubs.Scrubbed). z .report) s), u .leaves ∙ ap (λ (z : scrubs.Scrubbed). z .image) s)

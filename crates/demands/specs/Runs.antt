@@ -13,7 +13,7 @@ use Rattle.writer.specs.Answers.{asPlan, asWritten, answerOf, bytesAfter}
 use Rattle.writer.specs.declared.plan.Row.{Row}
 use Rattle.writer.specs.declared.sizes.WriteResult.{WriteResult}
 use Rattle.scan.specs.Answers.{asScan}
-use Rattle.scan.specs.declared.Scan.{Scan}
+use Rattle.scan.specs.declared.ScanResult.{ScanResult}
 use Rattle.repair.specs.Answers.{asMended, leftBy}
 use Rattle.repair.specs.declared.mending.MendResult.{MendResult}
 use Rattle.lines.specs.declared.Printed.{Printed}
@@ -29,7 +29,7 @@ pub record MendsTo (x : List ℕ) (r : MendResult) (y : List ℕ) : Type 0 where
   pub leaves : y ≡ leftBy (mend x) x
 
 -- repair::scrub of x: it answered r and left y
-pub record ScrubsTo (x : List ℕ) (r : Scan) (y : List ℕ) : Type 0 where
+pub record ScrubsTo (x : List ℕ) (r : ScanResult) (y : List ℕ) : Type 0 where
   pub answer : asScan r ≡ scrub x .report
   pub leaves : y ≡ scrub x .image
 

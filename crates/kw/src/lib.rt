@@ -14,23 +14,23 @@ ghost use Rattle.kw.specs.Writes.{numberIn, answerIn, writeNumber, write
 ghost use Rattle.kw.specs.Numbers.{refusalNumber, parseNumbers, scanNumbers, reportNumbers, mendingNumbers, mendNumber, mendNumbers};
 use repair::MendResult;
 use repair::Mending;
-use scan::Scan;
+use scan::ScanResult;
 use view::ParseResult;
 use writer::Row;
 use writer::WriteResult;
 
 // {1, words, corrected, uncorrectable}, or zeros for nothing.
-fn report_numbers(scan: Scan) -> [u64; 4]
+fn report_numbers(scan: ScanResult) -> [u64; 4]
     ensures { λ r. ⌜ r ≡ reportNumbers (asScan scan) ⌝ }
 {
     match scan {
-        Scan::Report(r) => [
+        ScanResult::Report(r) => [
             1,
             r.words as u64,
             r.corrected as u64,
             r.uncorrectable as u64,
         ],
-        Scan::Nothing => [0, 0, 0, 0],
+        ScanResult::Nothing => [0, 0, 0, 0],
     }
 }
 

@@ -6,19 +6,19 @@ ghost use Rattle.scan.specs.Answers.{asScan};
 ghost use Rattle.kw_test.specs.Reader.{scanAnswer, entryWith};
 use super::reader::header_of;
 use layout::Region;
-use scan::Scan;
+use scan::ScanResult;
 
-fn scan_numbers(scan: Scan) -> [u64; 4]
+fn scan_numbers(scan: ScanResult) -> [u64; 4]
     ensures { λ r. ⌜ r ≡ scanAnswer (asScan scan) ⌝ }
 {
     match scan {
-        Scan::Report(r) => [
+        ScanResult::Report(r) => [
             1,
             r.words as u64,
             r.corrected as u64,
             r.uncorrectable as u64,
         ],
-        Scan::Nothing => [0, 0, 0, 0],
+        ScanResult::Nothing => [0, 0, 0, 0],
     }
 }
 

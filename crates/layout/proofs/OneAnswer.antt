@@ -11,6 +11,7 @@ use Rattle.layout.proofs.Region.byte_length.Reads as byte-length
 use Rattle.layout.proofs.Region.is_encrypted.Reads as is-encrypted
 use Rattle.layout.proofs.Region.is_ecc_plane.Reads as is-ecc-plane
 use Rattle.layout.proofs.Region.has_ecc.Reads as has-ecc
+use Rattle.layout.proofs.Region.is_protected.Reads as is-protected
 use Rattle.layout.proofs.words_for.Reads as words-for
 use Rattle.layout.proofs.header_bytes.Reads as header-bytes
 
@@ -36,6 +37,9 @@ one-answer-is-ecc-plane κs a r r′ s s′ p q = agree p q
 
 pub one-answer-has-ecc : OneAnswer has-ecc.Learnt
 one-answer-has-ecc κs a r r′ s s′ p q = agree p q
+
+pub one-answer-is-protected : OneAnswer is-protected.Learnt
+one-answer-is-protected κs a r r′ s s′ p q = agree p q
 
 pub one-answer-words-for : OneAnswer words-for.Learnt
 one-answer-words-for κs a r r′ s s′ p q = one-size r r′ (agree p q)

@@ -2,6 +2,8 @@
 ghost use mathlib.Core.Path.{_≡_};
 ghost use Prim.Native.Nat.{_*_};
 ghost use Rattle.paper.specs.Layout.{isEncrypted, isPlane, hasParity, headerLength, wordsFor, headerBytes};
+ghost use Rattle.paper.specs.Scan.{isProtected};
+ghost use Rattle.layout.specs.Regions.{asEntry};
 ghost use Rattle.layout.specs.Sizes.{asPaper};
 
 // Bytes of a word. Every region and record is a whole number of words.
@@ -81,6 +83,13 @@ impl Region {
         ensures { λ r. ⌜ r ≡ hasParity (self .flags) ⌝ }
     {
         self.flags & FLAG_ECC_PRESENT != 0
+    }
+
+    // No plane, and flagged 2.
+    pub fn is_protected(self) -> bool
+        ensures { λ r. ⌜ r ≡ isProtected (asEntry self) ⌝ }
+    {
+        !self.is_ecc_plane() && self.has_ecc()
     }
 }
 

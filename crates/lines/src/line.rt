@@ -11,7 +11,7 @@ use ecc::EccReport;
 use error::Refusal;
 use put::put_bytes;
 use put::put_field;
-use scan::Scan;
+use scan::ScanResult;
 
 pub(crate) fn put_too_long(out: &mut [u8], at: usize) -> usize
     requires { ⌜ at + 8 ≤ length (now out) ⌝ }
@@ -61,14 +61,14 @@ fn put_counts(out: &mut [u8], at: usize, counts: EccReport) -> usize
     put_field(out, uncorrectable, b" ", counts.uncorrectable as u64)
 }
 
-pub(crate) fn put_ecc(out: &mut [u8], at: usize, report: Scan) -> usize
+pub(crate) fn put_ecc(out: &mut [u8], at: usize, report: ScanResult) -> usize
     requires { ⌜ at + 66 ≤ length (now out) ⌝ }
     ensures is { λ r. ⌜ Put (now (out .entry)) at (eccLine (asScan report)) r (now (out .exit)) ⌝ }
     ensures few { λ r. ⌜ r ≤ at + 66 ⌝ }
 {
     match report {
-        Scan::Nothing => put_bytes(out, at, b"ecc none"),
-        Scan::Report(counts) => put_counts(out, at, counts),
+        ScanResult::Nothing => put_bytes(out, at, b"ecc none"),
+        ScanResult::Report(counts) => put_counts(out, at, counts),
     }
 }
 

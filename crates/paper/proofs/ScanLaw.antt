@@ -2,15 +2,14 @@
 use mathlib.Core.Path.{_≡_, refl, sym, ap, ap₂, _∙_}
 use mathlib.Core.Bool.{Bool, true, false, _||_, or-true, or-false}
 use mathlib.Core.List.{List, [], _∷_, _++_, append-nil, append-assoc}
-use mathlib.Core.Option.{some}
 use Prim.Native.Nat.{ℕ, zero, suc, _+_, _-_, _*_, _/_, _≤_, _<_, min}
-use native.Mathlib.Nat.{add-zero, zero-add, add-suc, suc-add, add-assoc, mul-div-cancel, min-le-left, min-le-right}
+use native.Mathlib.Nat.{add-zero, zero-add, add-suc, suc-add, add-assoc, mul-div-cancel, min-eq-left}
 use native.Mathlib.Omega.{arith}
 use lib.Dec.{lit<}
 use lib.ListN.{length, take, drop, length-take, length-drop, length-append}
 use lib.Seq.{getD-take, getD-drop, drop-nil}
 use Rattle.paper.specs.Bytes.{at, wordAt, part, given, tab}
-use Rattle.paper.specs.Layout.{Entry, start, end}
+use Rattle.paper.specs.Layout.{Entry}
 use Rattle.paper.specs.Parity.{Class, decode}
 use Rattle.paper.specs.Views.{nth}
 use Rattle.paper.specs.Scan.{Report, isCorrected, isLost, total, report, sliceWords, sliceScan, planeOf, isProtected, Visit, visitWith, visitOf, visitsOver, visits, Pair, pairsFrom, wordsOf, examinedIn, examined, classAt, classesAt, scanOf, scan}
@@ -36,31 +35,30 @@ classes-tab x (suc m) q c =
     ∙ tab-ext m (λ w. decode (wordAt x (suc q + w)) (at x (suc c + w))) (λ w. decode (wordAt x (q + suc w)) (at x (c + suc w)))
     (λ w h. ap₂ (λ (a b : ℕ). decode (wordAt x a) (at x b)) (suc-add q w ∙ sym (add-suc q w)) (suc-add c w ∙ sym (add-suc c w))))
 
-module _ (x : List ℕ) (e p : Entry) (he : end e ≤ length x) (hp : end p ≤ length x) where
-  word-part : (w : ℕ) → w < e .words → wordAt (part x (start e) (end e)) w ≡ wordAt x (e .offset + w)
-  word-part w h =
-      read-ext 8 (part x (start e) (end e)) x (8 * w) (8 * (e .offset + w))
-      (λ j l. at-part x (start e) (end e) (8 * w + j) (omega arith) ∙ ap (at x) (omega arith))
+-- m words from word q on, and their check bytes from c on, as two slices
+pub slice-scan : (x : List ℕ) (m q c : ℕ) → 8 * (q + m) ≤ length x → c + m ≤ length x
+    → sliceScan (part x (8 * q) (8 * q + 8 * m)) (part x c (c + m)) ≡ report (classesAt x (pairsFrom m q c))
+unfolding sliceScan sliceWords
+slice-scan x m q c h l =
+    ap report
+    (ap (λ (n : ℕ). tab n f) count
+    ∙ tab-ext m f (λ w. decode (wordAt x (q + w)) (at x (c + w))) (λ w i. ap₂ decode (word w i) (at-part x c (c + m) w (omega arith)))
+    ∙ sym (classes-tab x m q c))
+  where
+    f : ℕ → Class
+    f w = decode (wordAt (part x (8 * q) (8 * q + 8 * m)) w) (at (part x c (c + m)) w)
 
-  words-part : sliceWords (part x (start e) (end e)) (part x (start p) (end p)) ≡ min (e .words) (8 * p .words)
-  unfolding sliceWords
-  words-part =
-      let a : end e - start e ≡ e .words * 8 = omega arith in
-      let b : end p - start p ≡ 8 * p .words = omega arith in
-      ap₂ (λ (m n : ℕ). min (m / 8) n) (length-part x (start e) (end e) he ∙ a) (length-part x (start p) (end p) hp ∙ b)
-      ∙ ap (λ (m : ℕ). min m (8 * p .words)) (mul-div-cancel (e .words) (lit< tt))
+    word : (w : ℕ) → w < m → wordAt (part x (8 * q) (8 * q + 8 * m)) w ≡ wordAt x (q + w)
+    word w i =
+        read-ext 8 (part x (8 * q) (8 * q + 8 * m)) x (8 * w) (8 * (q + w))
+        (λ j k. at-part x (8 * q) (8 * q + 8 * m) (8 * w + j) (omega arith) ∙ ap (at x) (omega arith))
 
-  -- a region's part scanned against its plane's
-  pub slice-scan : sliceScan (part x (start e) (end e)) (part x (start p) (end p)) ≡ report (classesAt x (wordsOf (record { region = e; plane = p })))
-  unfolding sliceScan wordsOf
-  slice-scan =
-      let m = min (e .words) (8 * p .words) in
-      let f : ℕ → Class = λ (w : ℕ). decode (wordAt (part x (start e) (end e)) w) (at (part x (start p) (end p)) w) in
-      ap report
-      (ap (λ (n : ℕ). tab n f) words-part
-      ∙ tab-ext m f (λ w. decode (wordAt x (e .offset + w)) (at x (8 * p .offset + w)))
-      (λ w h. ap₂ decode (word-part w (omega (arith, min-le-left (e .words) (8 * p .words)))) (at-part x (start p) (end p) w (omega (arith, min-le-right (e .words) (8 * p .words)))))
-      ∙ sym (classes-tab x m (e .offset) (8 * p .offset)))
+    count : min (length (part x (8 * q) (8 * q + 8 * m)) / 8) (length (part x c (c + m))) ≡ m
+    count =
+        let a : 8 * q + 8 * m - 8 * q ≡ m * 8 = omega arith in
+        let b : c + m - c ≡ m = omega arith in
+        ap₂ (λ (i j : ℕ). min (i / 8) j) (length-part x (8 * q) (8 * q + 8 * m) (omega arith) ∙ a) (length-part x c (c + m) l ∙ b)
+        ∙ ap (λ (i : ℕ). min i m) (mul-div-cancel m (lit< tt)) ∙ min-eq-left (omega arith)
 
 -- ---- reports add up
 
@@ -134,9 +132,6 @@ scan-given x (v ∷ vs) = refl
 pub scan-all : (x : List ℕ) → scan x ≡ given (anyOf (visits x)) (report (classesAt x (examined x)))
 unfolding scan examined
 scan-all x = scan-given x (visits x)
-
-pub scan-one : (x : List ℕ) (v : Visit) → scanOf x (v ∷ []) ≡ some (report (classesAt x (wordsOf v)))
-scan-one x v = scan-given x (v ∷ []) ∙ ap (λ (ps : List Pair). some (report (classesAt x ps))) (examined-one v)
 
 module _ (len : ℕ) (all : List Entry) where
   pub visit-plain : (e : Entry) → isProtected e ≡ false → visitOf len all e ≡ []

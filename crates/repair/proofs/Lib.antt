@@ -1,6 +1,5 @@
 pub mod OutcomeLaw
 pub mod ScrubbingLaw
-pub mod RunLaw
 pub mod SettleLaw
 pub mod AgreeLaw
 pub mod MetLaw

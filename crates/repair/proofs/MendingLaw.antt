@@ -31,7 +31,7 @@ use Rattle.scan.specs.Tally.{Totals, noTotals, tallied, marked, withClasses, re
 use Rattle.scan.proofs.TallyLaw.{tally-append}
 use Rattle.repair.proofs.MetLaw.{met-append, met-apart}
 use Rattle.repair.specs.Counting.{met, scanned}
-use Rattle.repair.specs.Runs.{visitsAt}
+use Rattle.scan.specs.Runs.{visitsAt}
 
 -- ---- a run of words
 

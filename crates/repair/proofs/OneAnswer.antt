@@ -1,4 +1,4 @@
--- No two answers fit one promise, nor two images that are left. (`asMended` tells every two answers of `mend` apart, whatever bytes are left; `scrub` answers a Scan: `one-scan` of crate scan.) Assumes nothing.
+-- No two answers fit one promise, nor two images that are left. (`asMended` tells every two answers of `mend` apart, whatever bytes are left; `scrub` answers a ScanResult: `one-scan` of crate scan.) Assumes nothing.
 use mathlib.Core.Path.{_≡_, refl, ap}
 use mathlib.Core.Bool.{Bool}
 use mathlib.Core.List.{List}
@@ -9,7 +9,7 @@ use Rattle.paper.specs.Mend as paper
 use Rattle.paper.proofs.OneAnswer.{OneAnswerAnd, agree}
 use Rattle.error.specs.Refused.{asVerdict}
 use Rattle.error.proofs.OneAnswer.{one-refusal}
-use Rattle.scan.specs.declared.Scan.{Scan}
+use Rattle.scan.specs.declared.ScanResult.{ScanResult}
 use Rattle.scan.specs.Answers.{asScan}
 use Rattle.scan.proofs.OneAnswer.{one-scan}
 use Rattle.repair.specs.declared.mending.Mending.{Mending}

@@ -21,7 +21,7 @@ use Rattle.paper.proofs.ScanLaw.{anyOf, mark, visits-words}
 use Rattle.scan.specs.Tally.{Totals, noTotals, counted, reportedBy}
 use Rattle.scan.proofs.TallyLaw.{counted-tally}
 use Rattle.repair.specs.Counting.{Stands, scrubIn}
-use Rattle.repair.specs.Runs.{visitsAt}
+use Rattle.scan.specs.Runs.{visitsAt}
 
 -- ---- one word
 

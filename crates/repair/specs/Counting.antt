@@ -8,7 +8,7 @@ use Rattle.paper.specs.Scrub.{State, scrubVisits}
 use Rattle.paper.specs.Mend.{fixAt}
 use Rattle.paper.proofs.ScanLaw.{anyOf}
 use Rattle.scan.specs.Tally.{Totals, tallied}
-use Rattle.repair.specs.Runs.{visitsAt}
+use Rattle.scan.specs.Runs.{visitsAt}
 
 -- ---- scrub
 

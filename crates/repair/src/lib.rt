@@ -1,6 +1,5 @@
 // Repair of an image in place: scrub, after view.rs, and mend.
 mod mending;
-mod runs;
 mod scrubbing;
 mod words;
 

@@ -13,11 +13,10 @@ ghost use Rattle.paper.proofs.ScanLaw.{anyOf};
 ghost use Rattle.laws.specs.Steps.{copyVote, copyVotes, mendHeader, mendWords};
 ghost use Rattle.scan.specs.Answers.{asScan};
 ghost use Rattle.ecc.specs.CheckTable.{IsCheckTable};
-ghost use Rattle.repair.specs.Runs.{visitsAt};
+ghost use Rattle.scan.specs.Runs.{visitsAt};
 ghost use Rattle.repair.specs.Answers.{asMended, asMending, leftBy};
 ghost use Rattle.scan.specs.Tally.{asTotals, marked, withClasses, Room};
 ghost use Rattle.repair.specs.Counting.{met, scanned};
-use super::runs::run_of;
 use super::words::fix_word;
 use ecc::CheckTable;
 use ecc::EMPTY_TABLE;
@@ -26,17 +25,18 @@ use error::Refusal;
 use overlap::Placement;
 use overlap::check_placement;
 use scalar::maj3;
-use scan::Scan;
+use scan::ScanResult;
 use scan::Tally;
 use scan::add_word;
 use scan::empty_tally;
+use scan::protected_run_at;
 use scan::scan_result;
 use scan::visit;
 use view::Header;
 
 // What was found before anything was written, how many bytes changed, and whether no word is left uncorrectable.
 pub struct Mending {
-    pub report: Scan,
+    pub report: ScanResult,
     pub stored: usize,
     pub whole: bool,
 }
@@ -143,7 +143,7 @@ fn mend_region(table: &CheckTable, bytes: &mut [u8], header: Header, i: u16, tal
     ensures tells { λ r. ⌜ asTotals r ≡ withClasses (marked (asTotals tally) (anyOf (visitsAt (header .«region_count») (now (bytes .entry)) i))) (met (now (bytes .entry)) (examinedIn (visitsAt (header .«region_count») (now (bytes .entry)) i))) ⌝ }
     ensures grows { λ r. ⌜ (r .report .words ≤ tally .report .words + 2 ^ 32) × Room 0 (asTotals r .report) ⌝ }
 {
-    let run = run_of(bytes, header, i);
+    let run = protected_run_at(bytes, header, i);
     let visited = visit(tally, run.visited);
     fix_words(table, bytes, run.word, run.check, run.words, visited)
 }
@@ -167,12 +167,12 @@ fn mend_words(bytes: &mut [u8], header: Header) -> Tally
 }
 
 // Nothing is whole without a report.
-fn is_whole(report: Scan) -> bool
+fn is_whole(report: ScanResult) -> bool
     ensures { λ r. ⌜ r ≡ paper.noneUncorrectable (asScan report) ⌝ }
 {
     match report {
-        Scan::Report(counts) => counts.uncorrectable == 0,
-        Scan::Nothing => false,
+        ScanResult::Report(counts) => counts.uncorrectable == 0,
+        ScanResult::Nothing => false,
     }
 }
 

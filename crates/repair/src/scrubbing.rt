@@ -8,15 +8,15 @@ ghost use Rattle.paper.specs.Scrub as paper;
 ghost use Rattle.ecc.specs.CheckTable.{IsCheckTable};
 ghost use Rattle.scan.specs.Tally.{asTotals, Room};
 ghost use Rattle.repair.specs.Counting.{Stands, scrubIn};
-use super::runs::run_of;
 use super::words::scrub_word;
 use ecc::CheckTable;
 use ecc::EMPTY_TABLE;
 use ecc::fill_check_table;
-use scan::Scan;
+use scan::ScanResult;
 use scan::Tally;
 use scan::add_word;
 use scan::empty_tally;
+use scan::protected_run_at;
 use scan::scan_result;
 use scan::visit;
 use view::Header;
@@ -52,19 +52,19 @@ fn scrub_region(table: &CheckTable, bytes: &mut [u8], header: Header, i: u16, ta
     ensures grows { λ r. ⌜ (r .report .words ≤ tally .report .words + 2 ^ 32) × Room 0 (asTotals r .report) ⌝ }
     ensures is { λ r. ⌜ ((s : paper.State) → Stands (asTotals tally) (now (bytes .entry)) s → Stands (asTotals r) (now (bytes .exit)) (scrubIn (header .«region_count») i s)) ⌝ }
 {
-    let run = run_of(bytes, header, i);
+    let run = protected_run_at(bytes, header, i);
     let visited = visit(tally, run.visited);
     scrub_words(table, bytes, run.word, run.check, run.words, visited)
 }
 
 // Repairs the corrected words of every protected region and hands back counts: what is left has to be checked afresh.
 // The image is parsed again before a region only where something was written since.
-pub fn scrub(bytes: &mut [u8]) -> Scan
+pub fn scrub(bytes: &mut [u8]) -> ScanResult
     ensures is { λ r. ⌜ asScan r ≡ paper.scrub (now (bytes .entry)) .report ⌝ }
     ensures leaves { λ r. ⌜ now (bytes .exit) ≡ paper.scrub (now (bytes .entry)) .image ⌝ }
 {
     let ParseResult::Parsed(first) = parse(bytes) else {
-        return Scan::Nothing;
+        return ScanResult::Nothing;
     };
     let mut table = EMPTY_TABLE;
     fill_check_table(&mut table);
@@ -75,7 +75,7 @@ pub fn scrub(bytes: &mut [u8]) -> Scan
     while i < first.region_count {
         if tally.report.corrected != written {
             let ParseResult::Parsed(again) = parse(bytes) else {
-                return Scan::Nothing;
+                return ScanResult::Nothing;
             };
             header = again;
             written = tally.report.corrected;

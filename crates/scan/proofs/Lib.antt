@@ -1,4 +1,4 @@
 pub mod TallyLaw
-pub mod RegionLaw
-pub mod TotalLaw
+pub mod RunLaw
+pub mod VisitLaw
 pub mod OneAnswer

@@ -58,6 +58,11 @@ bounded-report [] = subst Bounded (sym report-none) bounded-none
 bounded-report (k ∷ ks) =
     subst Bounded (report-front k 0 ks) (bounded-plus (reportOn (outcomeAs k 0)) (report ks) (bounded-on (outcomeAs k 0)) (bounded-report ks))
 
+-- the words of a list of classes more
+pub room-report : (r : Report) (ks : List Class) → Room (report ks .words) r → Room 0 (plus r (report ks))
+room-report r ks k =
+    record { words = omega (arith, k .words); counts = bounded-plus r (report ks) (k .counts) (bounded-report ks) }
+
 -- ---- the tally
 
 module _ (t : Totals) where

@@ -5,8 +5,8 @@ use mathlib.Core.Option.{Option}
 use Prim.Native.Nat.{ℕ, _+_, _^_, _≤_}
 use Rattle.paper.specs.Bytes.{given}
 use Rattle.paper.specs.Parity.{Class, Outcome, cleanWord, correctedWord, uncorrectableWord}
-use Rattle.paper.specs.Scan.{Report, report}
-use Rattle.paper.proofs.ScanLaw.{plus, noReport}
+use Rattle.paper.specs.Scan.{Report, report, Visit, examinedIn, classesAt}
+use Rattle.paper.proofs.ScanLaw.{plus, noReport, anyOf}
 use Rattle.ecc.specs.Answers.{asReport}
 use Rattle.scan.specs.declared.tally.Tally.{Tally}
 
@@ -46,6 +46,10 @@ counted t o = withReport t (reportOn o)
 -- as many words more as there are classes
 abbrev pub withClasses : Totals → List Class → Totals
 withClasses t ks = withReport t (report ks)
+
+-- some visits of x more
+unfoldable pub withVisits : List ℕ → List Visit → Totals → Totals
+withVisits x vs t = withClasses (marked t (anyOf vs)) (classesAt x (examinedIn vs))
 
 abbrev pub reportedBy : Totals → Option Report
 reportedBy t = given (t .any) (t .report)

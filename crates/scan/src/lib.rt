@@ -1,153 +1,83 @@
 // Scans of an image against its parity planes, after view.rs: they count, and write nothing. (FORMAT 7)
+mod runs;
 mod tally;
 
 ghost use mathlib.Core.Path.{_≡_};
-ghost use Prim.Native.Nat.{ℕ, _+_, _*_, _^_, _<_, _≤_};
-ghost use lib.ListN.{length};
-ghost use Rattle.paper.specs.Layout.{start, end};
-ghost use Rattle.paper.specs.Views.{seen, regionAt, partOf, bytesSpan};
-ghost use Rattle.paper.specs.Bytes.{part};
-ghost use Rattle.paper.specs.Scan.{sliceScan, visitOf, scanRegion, scanIn};
-ghost use Rattle.paper.specs.Scrub.{visitAt};
+ghost use Prim.Native.Nat.{_+_};
+ghost use Rattle.paper.specs.Scan.{classesAt, report, scanRegion, scanIn};
 ghost use Rattle.ecc.specs.Answers.{asReport};
 ghost use Rattle.ecc.specs.CheckTable.{IsCheckTable};
 ghost use Rattle.layout.specs.Regions.{asEntry};
-ghost use Rattle.scan.specs.Answers.{Few, asScan, scanAgainst};
-ghost use Rattle.scan.specs.Totals.{asTotals, add, Small};
+ghost use Rattle.scan.specs.Answers.{asScan};
+ghost use Rattle.scan.specs.Runs.{pairsOf, Fits};
+ghost use Rattle.scan.specs.Tally.{asTotals, marked, withClasses, Room};
 use ecc::CheckTable;
 use ecc::EMPTY_TABLE;
 use ecc::EccReport;
 use ecc::fill_check_table;
 use ecc::plane_scan_with;
 use layout::Region;
-use tables::PartSpan;
-use tables::Place;
-use tables::region_span;
+pub use runs::ProtectedRun;
+pub use runs::protected_run_at;
+use runs::run_with_plane;
 pub use tally::Tally;
+use tally::add_report;
 pub use tally::add_word;
 pub use tally::empty_tally;
 pub use tally::scan_result;
 pub use tally::visit;
 use view::Header;
-use view::RegionAt;
-use view::ecc_for;
-use view::region_at;
 
-pub enum Scan {
+// A report, or nothing where no region was visited, which is not a clean scan.
+pub enum ScanResult {
     Report(EccReport),
     Nothing,
 }
 
+fn scan_run(table: &CheckTable, bytes: &[u8], run: ProtectedRun) -> EccReport
+    requires { ⌜ Fits (now bytes) run × IsCheckTable (now table) ⌝ }
+    ensures { λ r. ⌜ asReport r ≡ report (classesAt (now (bytes .entry)) (pairsOf run)) ⌝ }
+{
+    let from = 8 * run.word;
+    let to = from + 8 * run.words;
+    let first = run.check;
+    let past = first + run.words;
+    plane_scan_with(table, &bytes[first..past], &bytes[from..to])
+}
+
+// The words of a run more.
+fn add_run(table: &CheckTable, bytes: &[u8], run: ProtectedRun, tally: Tally) -> Tally
+    requires { ⌜ Fits (now bytes) run × IsCheckTable (now table) × Room (run .words) (asTotals tally .report) ⌝ }
+    ensures is { λ r. ⌜ asTotals r ≡ withClasses (marked (asTotals tally) (run .visited)) (classesAt (now (bytes .entry)) (pairsOf run)) ⌝ }
+    ensures grows { λ r. ⌜ (r .report .words ≡ tally .report .words + run .words) × Room 0 (asTotals r .report) ⌝ }
+{
+    let report = scan_run(table, bytes, run);
+    add_report(visit(tally, run.visited), report)
+}
+
 // One region against its plane; flag 2 is not asked for. Nothing without a plane.
-pub fn verify_region(bytes: &[u8], header: Header, region: Region) -> Scan
-    ensures is { λ r. ⌜ asScan r ≡ scanRegion (header .«region_count») (now (bytes .entry)) (asEntry region) ⌝ }
-    ensures few { λ r. ⌜ Few (region .«word_length») r ⌝ }
+pub fn verify_region(bytes: &[u8], header: Header, region: Region) -> ScanResult
+    ensures { λ r. ⌜ asScan r ≡ scanRegion (header .«region_count») (now (bytes .entry)) (asEntry region) ⌝ }
 {
     let mut table = EMPTY_TABLE;
     fill_check_table(&mut table);
-    verify_by(&table, bytes, header, region)
+    let run = run_with_plane(bytes, header, region);
+    scan_result(add_run(&table, bytes, run, empty_tally()))
 }
 
-// The same by a table of check bytes, which is made once for an image.
-fn verify_by(table: &CheckTable, bytes: &[u8], header: Header, region: Region) -> Scan
-    requires { ⌜ IsCheckTable (now table) ⌝ }
-    ensures is { λ r. ⌜ asScan r ≡ scanRegion (header .«region_count») (now (bytes .entry)) (asEntry region) ⌝ }
-    ensures few { λ r. ⌜ Few (region .«word_length») r ⌝ }
-{
-    let plane = ecc_for(bytes, header, region);
-    match plane {
-        Place::Nothing => Scan::Nothing,
-        Place::At { start, end } => scan_against(table, bytes, region, start, end),
-    }
-}
-
-// A region against the plane from start to end.
-fn scan_against(table: &CheckTable, bytes: &[u8], region: Region, start: usize, end: usize) -> Scan
-    requires { ⌜ (start ≤ end) × (end ≤ length (now bytes)) × IsCheckTable (now table) ⌝ }
-    ensures is { λ r. ⌜ asScan r ≡ scanAgainst (now (bytes .entry)) (bytesSpan (length (now (bytes .entry))) (asEntry region)) start end ⌝ }
-    ensures few { λ r. ⌜ region .«word_length» < 2 ^ 32 ⌝ }
-{
-    let from = 8 * (region.word_offset as usize);
-    let to = from + 8 * (region.word_length as usize);
-    if bytes.len() < to {
-        return Scan::Nothing;
-    }
-    Scan::Report(plane_scan_with(table, &bytes[start..end], &bytes[from..to]))
-}
-
-// What is counted so far, and whether any region was visited.
-struct Total {
-    any: bool,
-    words: usize,
-    corrected: usize,
-    uncorrectable: usize,
-}
-
-// One region more: it counts if it is no plane, is flagged 2 and has a plane.
-fn add_region(
-    table: &CheckTable,
-    bytes: &[u8],
-    header: Header,
-    region: Region,
-    total: Total,
-) -> Total
-    requires { ⌜ Small 65535 total × IsCheckTable (now table) ⌝ }
-    ensures is { λ r. ⌜ asTotals r ≡ add (now (bytes .entry)) (visitOf (length (now (bytes .entry))) (seen (header .«region_count») (now (bytes .entry))) (asEntry region)) (asTotals total) ⌝ }
-    ensures small { λ r. ⌜ ((i : ℕ) → Small i total → Small (i + 1) r) ⌝ }
-{
-    if region.is_ecc_plane() {
-        return total;
-    }
-    if !region.has_ecc() {
-        return total;
-    }
-    match verify_by(table, bytes, header, region) {
-        Scan::Nothing => total,
-        Scan::Report(report) => Total {
-            any: true,
-            words: total.words + report.words,
-            corrected: total.corrected + report.corrected,
-            uncorrectable: total.uncorrectable + report.uncorrectable,
-        },
-    }
-}
-
-// Entry i, if there is one.
-fn add_entry(table: &CheckTable, bytes: &[u8], header: Header, i: u16, total: Total) -> Total
-    requires { ⌜ Small i total × IsCheckTable (now table) ⌝ }
-    ensures is { λ r. ⌜ asTotals r ≡ add (now (bytes .entry)) (visitAt (length (now (bytes .entry))) (seen (header .«region_count») (now (bytes .entry))) (regionAt (header .«region_count») (now (bytes .entry)) i)) (asTotals total) ⌝ }
-    ensures small { λ r. ⌜ Small (i + 1) r ⌝ }
-{
-    match region_at(bytes, header, i) {
-        RegionAt::Found(region) => add_region(table, bytes, header, region, total),
-        RegionAt::Nothing => total,
-    }
-}
-
-// Every protected region against its plane, summed; nothing where no region is visited, which is not a clean scan.
-pub fn verify_all(bytes: &[u8], header: Header) -> Scan
+// Every protected region against its plane, summed; nothing where no region is visited.
+pub fn verify_all(bytes: &[u8], header: Header) -> ScanResult
     ensures { λ r. ⌜ asScan r ≡ scanIn (header .«region_count») (now (bytes .entry)) ⌝ }
 {
     let n = header.region_count;
     let mut table = EMPTY_TABLE;
     fill_check_table(&mut table);
-    let mut total = Total {
-        any: false,
-        words: 0,
-        corrected: 0,
-        uncorrectable: 0,
-    };
+    let mut tally = empty_tally();
     let mut i: u16 = 0;
     while i < n {
-        total = add_entry(&table, bytes, header, i, total);
+        let run = protected_run_at(bytes, header, i);
+        tally = add_run(&table, bytes, run, tally);
         i += 1;
     }
-    if !total.any {
-        return Scan::Nothing;
-    }
-    Scan::Report(EccReport {
-        words: total.words,
-        corrected: total.corrected,
-        uncorrectable: total.uncorrectable,
-    })
+    scan_result(tally)
 }

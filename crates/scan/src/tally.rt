@@ -4,7 +4,7 @@ ghost use Rattle.paper.proofs.ScanLaw.{plus};
 ghost use Rattle.ecc.specs.Answers.{asOutcome, asReport};
 ghost use Rattle.scan.specs.Answers.{asScan};
 ghost use Rattle.scan.specs.Tally.{asTotals, noTotals, marked, withReport, counted, reportOn, reportedBy, Bounded, Room};
-use super::Scan;
+use super::ScanResult;
 use ecc::EccReport;
 use ecc::WordStatus;
 
@@ -91,12 +91,12 @@ pub fn add_word(tally: Tally, status: WordStatus) -> Tally
     add_report(tally, report_on(status))
 }
 
-pub fn scan_result(tally: Tally) -> Scan
+pub fn scan_result(tally: Tally) -> ScanResult
     ensures { λ r. ⌜ asScan r ≡ reportedBy (asTotals tally) ⌝ }
 {
     if !tally.any {
-        return Scan::Nothing;
+        return ScanResult::Nothing;
     }
     let report = tally.report;
-    Scan::Report(report)
+    ScanResult::Report(report)
 }

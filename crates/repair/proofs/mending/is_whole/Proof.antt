@@ -4,13 +4,13 @@ use Prim.Native.Nat.{_+_, _-_}
 use borrow.Author.Needs.{needs}
 use Rattle.paper.specs.Mend.{noneUncorrectable}
 use Rattle.scan.specs.Answers.{asScan}
-use Rattle.scan.specs.declared.Scan.{Scan}
+use Rattle.scan.specs.declared.ScanResult.{ScanResult}
 use borrow.Author.Needs.{needs}
 use Rattle.repair.proofs.mending.is_whole.Statement.{statement}
 use Rattle.repair.proofs.mending.is_whole.Tie as tie
 
 returns : tie.Need-returns
-returns c = ap (λ (s : Scan). noneUncorrectable (asScan s)) (sym (c .before .before .report .given .1))
+returns c = ap (λ (s : ScanResult). noneUncorrectable (asScan s)) (sym (c .before .before .report .given .1))
 
 pub is-whole-spec : {M : Type 1} → statement M
 is-whole-spec = tie.close (tie.spec (λ c. search needs) (λ c. search needs) returns (λ c. search needs))

@@ -15,10 +15,10 @@ use Rattle.repair.proofs.mending.mend_region.Tie as tie
 
 fix-words-requires : tie.Need-fix-words-requires
 fix-words-requires c κs =
-    let r = c .before .before .run-of in
+    let r = c .before .before .protected-run-at in
     let s = c .before .before .before .before .before in (
-      r .ensures .data-fits,
-      r .ensures .checks-fit,
+      r .ensures .fits .words,
+      r .ensures .fits .checks,
       subst (λ (t : Totals). Room (r .result .words) (t .report)) (sym (c .before .visit .ensures)) (room-less (2 ^ 32) (r .result .words) (asTotals (s .args .tally) .report) (s .pre .0) (omega (arith, r .ensures .few))),
       s .pre .1,
     )
@@ -27,7 +27,7 @@ returns : tie.Need-returns
 returns c =
     let w = c .before .before .fix-words in
     let v = c .before .before .before .before .visit in
-    let r = c .before .before .before .before .before .run-of in
+    let r = c .before .before .before .before .before .protected-run-at in
     let g = c .before .before .before .before .before .before .before .before .args in
     let x = now (g .bytes) in
     let t = asTotals (g .tally) in

@@ -8,7 +8,7 @@ use Rattle.paper.specs.Bytes.{Bytes}
 use Rattle.paper.specs.Scan.{examinedIn}
 use Rattle.paper.specs.Mend.{fixAll}
 use Rattle.paper.proofs.ScanLaw.{anyOf}
-use Rattle.repair.specs.Runs.{visitsAt}
+use Rattle.scan.specs.Runs.{visitsAt}
 use Rattle.scan.specs.Tally.{Totals, asTotals, marked, withClasses, Room}
 use Rattle.scan.proofs.TallyLaw.{room-start}
 use Rattle.repair.specs.Counting.{met}

@@ -11,17 +11,17 @@ use Rattle.paper.proofs.ScanLaw.{anyOf, mark}
 use Rattle.scan.specs.Tally.{Totals, asTotals, marked, Room}
 use Rattle.scan.proofs.TallyLaw.{room-less}
 use Rattle.repair.specs.Counting.{Stands}
-use Rattle.repair.specs.Runs.{visitsAt}
+use Rattle.scan.specs.Runs.{visitsAt}
 use Rattle.repair.proofs.ScrubbingLaw.{region-stands}
 use Rattle.repair.proofs.scrubbing.scrub_region.Statement.{statement}
 use Rattle.repair.proofs.scrubbing.scrub_region.Tie as tie
 
 scrub-words-requires : tie.Need-scrub-words-requires
 scrub-words-requires c κs =
-    let r = c .before .before .run-of in
+    let r = c .before .before .protected-run-at in
     let s = c .before .before .before .before .before in (
-      r .ensures .data-fits,
-      r .ensures .checks-fit,
+      r .ensures .fits .words,
+      r .ensures .fits .checks,
       subst (λ (t : Totals). Room (r .result .words) (t .report)) (sym (c .before .visit .ensures)) (room-less (2 ^ 32) (r .result .words) (asTotals (s .args .tally) .report) (s .pre .0) (omega (arith, r .ensures .few))),
       s .pre .1,
     )
@@ -30,7 +30,7 @@ returns : tie.Need-returns
 returns c =
     let w = c .before .before .scrub-words in
     let v = c .before .before .before .before .visit in
-    let r = c .before .before .before .before .before .run-of in
+    let r = c .before .before .before .before .before .protected-run-at in
     let g = c .before .before .before .before .before .before .before .before .args in
     let x = now (g .bytes) in
     let t = asTotals (g .tally) in

@@ -1,18 +1,20 @@
 -- The run of an entry, as its plane's place and its own bounds tell. Assumes nothing.
-use mathlib.Core.Path.{_≡_, sym, ap, ap₂, _∙_, subst}
-use mathlib.Core.Bool.{Bool, true, false}
+use mathlib.Core.Path.{_≡_, refl, sym, ap, ap₂, _∙_, subst}
+use mathlib.Core.Bool.{Bool, true, false, _&&_, cond}
 use mathlib.Core.List.{List, []}
-use mathlib.Core.Option.{none, some}
-use Prim.Native.Nat.{ℕ, _+_, _-_, _*_, _^_, _≤_, _<_, min}
+use mathlib.Core.Option.{Option, none, some}
+use Prim.Native.Nat.{ℕ, zero, suc, _+_, _-_, _*_, _^_, _≤_, _<_, min}
 use native.Mathlib.Nat.{min-le-left, min-le-right}
 use native.Mathlib.Omega.{arith}
+use lib.Dec.{leb}
 use lib.ListN.{length}
-use Rattle.paper.specs.Layout.{isPlane, hasParity}
+use Rattle.paper.specs.Bytes.{given}
+use Rattle.paper.specs.Layout.{Entry, end}
 use Rattle.paper.specs.Views.{bytesSpan, firstThat, planeFor, seen, eccFor, regionAt}
-use Rattle.paper.specs.Scan.{pairsFrom, planeOf, Visit, visitWith, visitOf, wordsOf, examinedIn}
+use Rattle.paper.specs.Scan.{report, planeOf, planeWithin, isProtected, Visit, visitWith, visitOf, pairsFrom, wordsOf, examinedIn, classesAt}
 use Rattle.paper.specs.Scrub.{visitAt}
 use Rattle.paper.proofs.PlaneLaw as plane-law
-use Rattle.paper.proofs.ScanLaw.{anyOf, examined-one, visit-plain, visit-protected}
+use Rattle.paper.proofs.ScanLaw.{length-classes, anyOf, examined-one, visit-plain, visit-protected}
 use Rattle.error.specs.declared.Refusal.{Refusal}
 use Rattle.layout.specs.declared.Region.{Region}
 use Rattle.layout.specs.Regions.{asEntry, regionOf}
@@ -25,18 +27,13 @@ use Rattle.view.specs.Answers.{foundAs}
 use Rattle.view.specs.declared.regions.RegionAt.{RegionAt}
 use Rattle.view.specs.declared.regions.RegionAt.the-variants as is
 use Rattle.view.proofs.AnswersLaw.{found-some, found-none}
-use Rattle.scan.proofs.RegionLaw.{same-visit}
-use Rattle.scan.proofs.TotalLaw.{plane-plain, bare-plain, protected-is}
-use Rattle.repair.specs.declared.runs.Run.{Run}
-use Rattle.repair.specs.Runs.{visitsAt, IsRun}
+use Rattle.scan.specs.declared.runs.ProtectedRun.{ProtectedRun}
+use Rattle.scan.specs.Runs.{visitsAt, noRun, runOf, pairsOf, IsRun}
 
-abbrev pub noRun : Run
-noRun = record { visited = false; word = 0; check = 0; words = 0 }
-
-pub empty-run : (x : List ℕ) (vs : List Visit) (q : Run) → q ≡ noRun → vs ≡ [] → IsRun x vs q
+pub empty-run : (x : List ℕ) (vs : List Visit) (q : ProtectedRun) → q ≡ noRun → vs ≡ [] → IsRun x vs q
 unfolding pairsFrom examinedIn
 empty-run x vs q e f =
-    subst (IsRun x vs) (sym e) (record { pairs = rw f; visits = rw f; data-fits = omega arith; checks-fit = omega arith; few = omega arith })
+    subst (IsRun x vs) (sym e) (record { is = rw f; pairs = rw f; visits = rw f; fits = record { words = omega arith; checks = omega arith }; few = omega arith })
 
 -- ---- a protected region
 
@@ -84,45 +81,71 @@ module _ (n : ℕ) (x : List ℕ) (r : Region) (pl : Place) (sp : PartSpan) (ep 
         let g : m ≤ r .«word_length» = omega (arith, min-le-left (r .«word_length») (b - a)) in
         let h : m ≤ b - a = omega (arith, min-le-right (r .«word_length») (b - a)) in
         let vs : visitWith (asEntry r) (planeOf (length x) (seen n x) (asEntry r)) ≡ visitWith (asEntry r) (some (p .plane)) = ap (visitWith (asEntry r)) is-plane in
+        let w : b - a ≡ 8 * p .plane .words = omega (arith, p .first, p .past) in
         record {
+          is = ap₂ (λ (i j : ℕ). record { visited = true; word = r .«word_offset»; check = i; words = j }) (p .first) (e ∙ ap (min (r .«word_length»)) w) ∙ sym (ap runOf vs);
           pairs = ap (λ (k : ℕ). pairsFrom k (r .«word_offset») a) e ∙ same-pairs ∙ sym (ap examinedIn vs ∙ examined-one (record { region = asEntry r; plane = p .plane }));
           visits = sym (ap anyOf vs);
-          data-fits = omega (arith, ends);
-          checks-fit = omega (arith, p .first, p .past, p .fits);
+          fits = record { words = omega (arith, ends); checks = omega (arith, p .first, p .past, p .fits) };
           few = omega arith;
         }
+
+-- the same words, mark and run
+abbrev Same : List Visit → List Visit → Type 0
+Same vs ws = (examinedIn vs ≡ examinedIn ws) × (anyOf vs ≡ anyOf ws) × (runOf vs ≡ runOf ws)
+
+-- the reserved field is not read
+same-visit : (len : ℕ) (all : List Entry) (e : Entry) → Same (visitOf len all (asEntry (regionOf e))) (visitOf len all e)
+unfolding visitOf isProtected planeOf examinedIn wordsOf
+same-visit len all e = go (isProtected e) (firstThat (planeFor (e .kind)) all)
+  where
+    within : (t : Bool) (p : Entry) → Same (visitWith (asEntry (regionOf e)) (given t p)) (visitWith e (given t p))
+    within true p = (refl, refl, refl)
+    within false p = (refl, refl, refl)
+
+    go : (t : Bool) (o : Option Entry) → Same (cond t (visitWith (asEntry (regionOf e)) (planeWithin len (asEntry (regionOf e)) o)) []) (cond t (visitWith e (planeWithin len e o)) [])
+    go false o = (refl, refl, refl)
+    go true none = (refl, refl, refl)
+    go true (some p) = within (leb (end e) len && leb (end p) len) p
 
 -- ---- a region that is handed out for entry i
 
 module _ (n : ℕ) (x : List ℕ) (i : ℕ) (r : RegionAt) (f : r ≡ foundAs (regionAt n x i)) where
-  pub not-there : r ≡ is.Nothing → (q : Run) → q ≡ noRun → IsRun x (visitsAt n x i) q
+  pub not-there : r ≡ is.Nothing → (q : ProtectedRun) → q ≡ noRun → IsRun x (visitsAt n x i) q
   not-there g q e = empty-run x (visitsAt n x i) q e (ap (visitAt (length x) (seen n x)) (found-none (regionAt n x i) (sym g ∙ f)))
 
   module _ (p : Region) (g : r ≡ is.Found p) where
-    at-region : (q : Run) → IsRun x (visitOf (length x) (seen n x) (asEntry p)) q → IsRun x (visitsAt n x i) q
+    at-region : (q : ProtectedRun) → IsRun x (visitOf (length x) (seen n x) (asEntry p)) q → IsRun x (visitsAt n x i) q
     at-region q k =
         let e = found-some (regionAt n x i) p (sym g ∙ f) in
         let s = same-visit (length x) (seen n x) (e .0) in
         let vs : visitOf (length x) (seen n x) (asEntry p) ≡ visitOf (length x) (seen n x) (asEntry (regionOf (e .0))) = ap (λ (z : Region). visitOf (length x) (seen n x) (asEntry z)) (e .2) in
         let there : visitsAt n x i ≡ visitOf (length x) (seen n x) (e .0) = ap (visitAt (length x) (seen n x)) (e .1) in
         record {
+          is = k .is ∙ ap runOf vs ∙ s .2 ∙ sym (ap runOf there);
           pairs = k .pairs ∙ ap examinedIn vs ∙ s .0 ∙ sym (ap examinedIn there);
           visits = k .visits ∙ ap anyOf vs ∙ s .1 ∙ sym (ap anyOf there);
-          data-fits = k .data-fits;
-          checks-fit = k .checks-fit;
+          fits = k .fits;
           few = k .few;
         }
 
-    pub a-plane : (t : Bool) → t ≡ isPlane (p .flags) → t ≡ true → (q : Run) → q ≡ noRun → IsRun x (visitsAt n x i) q
-    a-plane t e h q z =
-        at-region q (empty-run x (visitOf (length x) (seen n x) (asEntry p)) q z (visit-plain (length x) (seen n x) (asEntry p) (plane-plain (asEntry p) (sym e ∙ h))))
-
-    pub unprotected : (t : Bool) → t ≡ hasParity (p .flags) → t ≡ false → (q : Run) → q ≡ noRun → IsRun x (visitsAt n x i) q
+    pub unprotected : (t : Bool) → t ≡ isProtected (asEntry p) → t ≡ false → (q : ProtectedRun) → q ≡ noRun → IsRun x (visitsAt n x i) q
     unprotected t e h q z =
-        at-region q (empty-run x (visitOf (length x) (seen n x) (asEntry p)) q z (visit-plain (length x) (seen n x) (asEntry p) (bare-plain (asEntry p) (sym e ∙ h))))
+        at-region q (empty-run x (visitOf (length x) (seen n x) (asEntry p)) q z (visit-plain (length x) (seen n x) (asEntry p) (sym e ∙ h)))
 
-    pub protected : (t u : Bool) → t ≡ isPlane (p .flags) → t ≡ false → u ≡ hasParity (p .flags) → u ≡ true
-        → (q : Run) → IsRun x (visitWith (asEntry p) (planeOf (length x) (seen n x) (asEntry p))) q → IsRun x (visitsAt n x i) q
-    protected t u et ht eu hu q k =
+    pub protected : (t : Bool) → t ≡ isProtected (asEntry p) → t ≡ true
+        → (q : ProtectedRun) → IsRun x (visitWith (asEntry p) (planeOf (length x) (seen n x) (asEntry p))) q → IsRun x (visitsAt n x i) q
+    protected t e h q k =
         at-region q
-        (subst (λ (vs : List Visit). IsRun x vs q) (sym (visit-protected (length x) (seen n x) (asEntry p) (protected-is (asEntry p) (sym et ∙ ht) (sym eu ∙ hu)))) k)
+        (subst (λ (vs : List Visit). IsRun x vs q) (sym (visit-protected (length x) (seen n x) (asEntry p) (sym e ∙ h))) k)
+
+-- ---- the words of a run: how many
+
+length-from : (m q c : ℕ) → length (pairsFrom m q c) ≡ m
+unfolding pairsFrom
+length-from zero q c = refl
+length-from (suc m) q c = ap suc (length-from m (suc q) (suc c))
+
+pub run-words : (x : List ℕ) (r : ProtectedRun) → report (classesAt x (pairsOf r)) .words ≡ r .words
+unfolding report
+run-words x r = length-classes x (pairsOf r) ∙ length-from (r .words) (r .word) (r .check)

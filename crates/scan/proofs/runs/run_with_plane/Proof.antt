@@ -1,4 +1,4 @@
--- `repair::runs::protected_run` meets its contract. Assumes nothing.
+-- `scan::runs::run_with_plane` meets its contract. Assumes nothing.
 use mathlib.Core.Path.{ap}
 use Prim.Native.Nat.{_-_}
 use native.Mathlib.Omega.{arith}
@@ -6,10 +6,10 @@ use borrow.Author.Needs.{needs}
 use denote.Ref.{now}
 use Rattle.paper.specs.Scan.{visitWith}
 use Rattle.layout.specs.Regions.{asEntry}
-use Rattle.repair.proofs.RunLaw.{empty-run, no-plane, past-end, ordered, the-run}
+use Rattle.scan.proofs.RunLaw.{empty-run, no-plane, past-end, ordered, the-run}
 use borrow.Author.Needs.{needs}
-use Rattle.repair.proofs.runs.protected_run.Statement.{statement}
-use Rattle.repair.proofs.runs.protected_run.Tie as tie
+use Rattle.scan.proofs.runs.run_with_plane.Statement.{statement}
+use Rattle.scan.proofs.runs.run_with_plane.Tie as tie
 
 returns : tie.Need-returns
 returns c =
@@ -27,8 +27,8 @@ returns-2 c =
     empty-run (now (g .bytes)) _ (c .no-run2 .result) (c .no-run2 .ensures)
     (ap (visitWith (asEntry (g .region))) (past-end (g .header .«region_count») (now (g .bytes)) (g .region) (e .ecc-for .result) (r .region-span .result) (e .ecc-for .ensures) (r .region-span .ensures) _ (c .before .enum-told3 .given .1)))
 
-sub-least : tie.Need-sub-least
-sub-least c =
+sub-min : tie.Need-sub-min
+sub-min c =
     let p = c .before .before .before .before in
     let r = c .before .before .before .before .before .before in
     let e = r .before in
@@ -43,10 +43,10 @@ returns-3 c =
     let e = r .before in
     let g = e .before .before .args in
     the-run (g .header .«region_count») (now (g .bytes)) (g .region) (e .ecc-for .result) (r .region-span .result) (e .ecc-for .ensures) (r .region-span .ensures)
-    _ _ _ _ (p .plane .given .1) (c .before .before .before .enum-told2 .given .1) (c .before .least .result) (c .before .least .ensures) (omega (arith, c .before .before .struct-known .given))
+    _ _ _ _ (p .plane .given .1) (c .before .before .before .enum-told2 .given .1) (c .before .min .result) (c .before .min .ensures) (omega (arith, c .before .before .struct-known .given))
 
-pub protected-run-spec : {M : Type 1} → statement M
-protected-run-spec =
+pub run-with-plane-spec : {M : Type 1} → statement M
+run-with-plane-spec =
     tie.close
     (tie.spec
     (λ c κs. search needs)
@@ -60,7 +60,7 @@ protected-run-spec =
     (λ c κs. search needs)
     returns-2
     (λ c. search needs)
-    sub-least
+    sub-min
     (λ c κs. search needs)
     (λ c. search needs)
     returns-3)

@@ -1,12 +1,11 @@
 // Which words of an entry are examined: no plane, flagged 2, with a plane, and a check byte for each word. (FORMAT 7)
 ghost use mathlib.Core.Path.{_≡_};
-ghost use mathlib.Core.Bool.{false};
-ghost use Prim.Native.Nat.{ℕ, min};
+ghost use Prim.Native.Nat as nat;
 ghost use lib.ListN.{length};
 ghost use Rattle.paper.specs.Views.{seen};
 ghost use Rattle.paper.specs.Scan.{planeOf, visitWith};
 ghost use Rattle.layout.specs.Regions.{asEntry};
-ghost use Rattle.repair.specs.Runs.{visitsAt, IsRun};
+ghost use Rattle.scan.specs.Runs.{visitsAt, noRun, IsRun};
 use layout::Region;
 use tables::PartSpan;
 use tables::Place;
@@ -17,17 +16,17 @@ use view::ecc_for;
 use view::region_at;
 
 // As many words from word on, with check bytes from check on. A region with a plane is visited, even without words.
-pub(crate) struct Run {
+pub struct ProtectedRun {
     pub visited: bool,
     pub word: usize,
     pub check: usize,
     pub words: usize,
 }
 
-fn no_run() -> Run
-    ensures { λ r. ⌜ r ≡ record { visited = false; word = 0; check = 0; words = 0 } ⌝ }
+fn no_run() -> ProtectedRun
+    ensures { λ r. ⌜ r ≡ noRun ⌝ }
 {
-    Run {
+    ProtectedRun {
         visited: false,
         word: 0,
         check: 0,
@@ -35,14 +34,14 @@ fn no_run() -> Run
     }
 }
 
-fn least(a: usize, b: usize) -> usize
-    ensures { λ r. ⌜ r ≡ min a b ⌝ }
+fn min(a: usize, b: usize) -> usize
+    ensures { λ r. ⌜ r ≡ nat.min a b ⌝ }
 {
     if a < b { a } else { b }
 }
 
-// Of a region that is no plane and is flagged 2.
-fn protected_run(bytes: &[u8], header: Header, region: Region) -> Run
+// Of a region, whatever its flags.
+pub(crate) fn run_with_plane(bytes: &[u8], header: Header, region: Region) -> ProtectedRun
     ensures { λ r. ⌜ IsRun (now (bytes .entry)) (visitWith (asEntry region) (planeOf (length (now (bytes .entry))) (seen (header .«region_count») (now (bytes .entry))) (asEntry region))) r ⌝ }
 {
     let plane = ecc_for(bytes, header, region);
@@ -53,8 +52,8 @@ fn protected_run(bytes: &[u8], header: Header, region: Region) -> Run
     let PartSpan::Bytes { start: _, end: _ } = span else {
         return no_run();
     };
-    let words = least(region.word_length as usize, end - start);
-    Run {
+    let words = min(region.word_length as usize, end - start);
+    ProtectedRun {
         visited: true,
         word: region.word_offset as usize,
         check: start,
@@ -62,19 +61,16 @@ fn protected_run(bytes: &[u8], header: Header, region: Region) -> Run
     }
 }
 
-// Of entry i, if there is one.
-pub(crate) fn run_of(bytes: &[u8], header: Header, i: u16) -> Run
+// Of entry i, if there is one and it is protected.
+pub fn protected_run_at(bytes: &[u8], header: Header, i: u16) -> ProtectedRun
     ensures { λ r. ⌜ IsRun (now (bytes .entry)) (visitsAt (header .«region_count») (now (bytes .entry)) i) r ⌝ }
 {
     let found = region_at(bytes, header, i);
     let RegionAt::Found(region) = found else {
         return no_run();
     };
-    if region.is_ecc_plane() {
+    if !region.is_protected() {
         return no_run();
     }
-    if !region.has_ecc() {
-        return no_run();
-    }
-    protected_run(bytes, header, region)
+    run_with_plane(bytes, header, region)
 }

@@ -1,0 +1,59 @@
+-- The totals, visit by visit. Assumes nothing.
+use mathlib.Core.Path.{_≡_, sym, ap, ap₂, _∙_}
+use mathlib.Core.Bool.{Bool, or-false, or-assoc}
+use mathlib.Core.List.{List, [], _++_}
+use mathlib.Core.Option.{Option}
+use Prim.Native.Nat.{ℕ, suc, _+_, _≤_}
+use native.Mathlib.Numerals.{add-one}
+use native.Mathlib.Omega.{arith}
+use lib.ListN.{length, drop, drop-of-length-le}
+use Rattle.paper.specs.Bytes.{given}
+use Rattle.paper.specs.Layout.{Entry}
+use Rattle.paper.specs.Views.{seen, nth}
+use Rattle.paper.specs.Scan.{Report, report, Visit, visitsOver, Pair, examinedIn, classesAt, scanOf}
+use Rattle.paper.specs.Scrub.{visitAt}
+use Rattle.paper.proofs.ScanLaw.{plus-none, none-plus, plus-assoc, report-append, report-none, anyOf, any-append, examined-append, scan-given, visits-from}
+use Rattle.view.proofs.SeenLaw.{length-seen}
+use Rattle.scan.specs.declared.runs.ProtectedRun.{ProtectedRun}
+use Rattle.scan.specs.Runs.{pairsOf, IsRun}
+use Rattle.scan.specs.Tally.{Totals, noTotals, marked, withClasses, withVisits, reportedBy}
+
+-- ---- some visits more
+
+none-more : (x : List ℕ) (t : Totals) → withVisits x [] t ≡ t
+unfolding withVisits examinedIn classesAt
+none-more x t = rw (or-false (t .any), report-none, plus-none (t .report))
+
+more-append : (x : List ℕ) (vs ws : List Visit) (t : Totals) → withVisits x (vs ++ ws) t ≡ withVisits x ws (withVisits x vs t)
+unfolding withVisits
+more-append x vs ws t =
+    let ps = examinedIn vs in
+    let qs = examinedIn ws in
+    rw (any-append vs ws, or-assoc (t .any) (anyOf vs) (anyOf ws), examined-append vs ws, report-append x ps qs, plus-assoc (t .report) (report (classesAt x ps)) (report (classesAt x qs)))
+
+-- a run is its visits
+pub run-more : (x : List ℕ) (vs : List Visit) (r : ProtectedRun) (t : Totals) → IsRun x vs r
+    → withClasses (marked t (r .visited)) (classesAt x (pairsOf r)) ≡ withVisits x vs t
+unfolding withVisits
+run-more x vs r t k = ap₂ (λ (v : Bool) (ps : List Pair). withClasses (marked t v) (classesAt x ps)) (k .visits) (k .pairs)
+
+-- ---- all entries
+
+-- entry i, and those behind it
+pub more-next : (x : List ℕ) (all es : List Entry) (i : ℕ) (t : Totals)
+    → withVisits x (visitsOver (length x) all (drop i es)) t ≡ withVisits x (visitsOver (length x) all (drop (i + 1) es)) (withVisits x (visitAt (length x) all (nth i es)) t)
+more-next x all es i t =
+    ap (λ (vs : List Visit). withVisits x vs t) (visits-from (length x) all es i)
+    ∙ more-append x (visitAt (length x) all (nth i es)) (visitsOver (length x) all (drop (suc i) es)) t
+    ∙ ap (λ (k : ℕ). withVisits x (visitsOver (length x) all (drop k es)) (withVisits x (visitAt (length x) all (nth i es)) t)) (sym (add-one i))
+
+pub more-done : (x : List ℕ) (n i : ℕ) (t : Totals) → n ≤ i → withVisits x (visitsOver (length x) (seen n x) (drop i (seen n x))) t ≡ t
+unfolding visitsOver
+more-done x n i t h = let l : length (seen n x) ≤ i = omega (arith, length-seen n x) in rw (drop-of-length-le (seen n x) l) (none-more x t)
+
+-- ---- the answer
+
+pub all-said : (x : List ℕ) (vs : List Visit) (t : Totals) → t ≡ withVisits x vs noTotals → reportedBy t ≡ scanOf x vs
+unfolding withVisits
+all-said x vs t e =
+    ap reportedBy e ∙ ap (given (anyOf vs)) (none-plus (report (classesAt x (examinedIn vs)))) ∙ sym (scan-given x vs)

@@ -1,0 +1,41 @@
+-- Steps of code, for private contracts; nothing that a reader must believe. The examined words of an entry, as one run. (FORMAT 7)
+use mathlib.Core.Path.{_≡_}
+use mathlib.Core.Bool.{true, false}
+use mathlib.Core.List.{List, [], _∷_}
+use Prim.Native.Nat.{ℕ, _+_, _*_, _^_, _≤_, _<_, min}
+use lib.ListN.{length}
+use Rattle.paper.specs.Views.{seen, regionAt}
+use Rattle.paper.specs.Scan.{Visit, Pair, pairsFrom, examinedIn}
+use Rattle.paper.specs.Scrub.{visitAt}
+use Rattle.paper.proofs.ScanLaw.{anyOf}
+use Rattle.scan.specs.declared.runs.ProtectedRun.{ProtectedRun}
+
+-- the visit of entry i of x, if it has one, with a count n of regions that stands beside x
+abbrev pub visitsAt : ℕ → List ℕ → ℕ → List Visit
+visitsAt n x i = visitAt (length x) (seen n x) (regionAt n x i)
+
+abbrev pub noRun : ProtectedRun
+noRun = record { visited = false; word = 0; check = 0; words = 0 }
+
+-- the run of one visit, or of none
+abbrev pub runOf : List Visit → ProtectedRun
+runOf [] = noRun
+runOf (v ∷ vs) =
+    record { visited = true; word = v .region .offset; check = 8 * v .plane .offset; words = min (v .region .words) (8 * v .plane .words) }
+
+-- its words, each with its check byte
+abbrev pub pairsOf : ProtectedRun → List Pair
+pairsOf r = pairsFrom (r .words) (r .word) (r .check)
+
+-- they lie in x
+pub record Fits (x : List ℕ) (r : ProtectedRun) : Type 0 where
+  pub words : 8 * (r .word + r .words) ≤ length x
+  pub checks : r .check + r .words ≤ length x
+
+-- r is the run of the visits vs of x, which are one or none: so it has their words
+pub record IsRun (x : List ℕ) (vs : List Visit) (r : ProtectedRun) : Type 0 where
+  pub is : r ≡ runOf vs
+  pub pairs : pairsOf r ≡ examinedIn vs
+  pub visits : r .visited ≡ anyOf vs
+  pub fits : Fits x r
+  pub few : r .words < 2 ^ 32
