@@ -1,4 +1,4 @@
--- The laws of `syn`, and that a linear map is known by its values at the powers of two. Assumes nothing.
+-- The laws of `xorColumns`, and that a linear map is known by its values at the powers of two. Assumes nothing.
 use mathlib.Core.Path.{_≡_, refl, sym, ap, ap₂, _∙_, subst}
 use mathlib.Core.Bool.{Bool, true, false}
 use mathlib.Core.List.{List, [], _∷_}
@@ -10,7 +10,7 @@ use lib.Pow.{pow-pos}
 use lib.Bits.{bitXor, xor-self, xor-zero-r, xor-comm, xor-block, xor-shifted}
 use lib.ListN.{getD}
 use Rattle.bits.specs.Bit.{isOne, num, xorB, bit}
-use Rattle.bits.specs.Linear.{pick, syn, Linear, values}
+use Rattle.bits.specs.Linear.{pick, xorColumns, Linear, values}
 use Rattle.bits.proofs.BitLaw.{halves, bit-xor, xor-half, xor-assoc, pow-half, pow-even}
 
 pub pick-xor : (x y : Bool) (c : ℕ) → pick (xorB x y) c ≡ bitXor (pick x c) (pick y c)
@@ -25,30 +25,30 @@ xor-swap a b c d =
     ∙ ap (bitXor a) (sym (xor-assoc b c d) ∙ ap (λ (x : ℕ). bitXor x d) (xor-comm b c) ∙ xor-assoc c b d)
     ∙ sym (xor-assoc a c (bitXor b d))
 
-pub syn-xor : (cs : List ℕ) (a b : ℕ) → syn cs (bitXor a b) ≡ bitXor (syn cs a) (syn cs b)
-unfolding syn
-syn-xor [] a b = refl
-syn-xor (c ∷ cs) a b =
+pub xorColumns-xor : (cs : List ℕ) (a b : ℕ) → xorColumns cs (bitXor a b) ≡ bitXor (xorColumns cs a) (xorColumns cs b)
+unfolding xorColumns
+xorColumns-xor [] a b = refl
+xorColumns-xor (c ∷ cs) a b =
     ap₂ bitXor
     (ap (λ (x : Bool). pick x c) (bit-xor a b 0) ∙ pick-xor (bit a 0) (bit b 0) c)
-    (ap (syn cs) (xor-half a b) ∙ syn-xor cs (a / 2) (b / 2))
-    ∙ xor-swap (pick (bit a 0) c) (pick (bit b 0) c) (syn cs (a / 2)) (syn cs (b / 2))
+    (ap (xorColumns cs) (xor-half a b) ∙ xorColumns-xor cs (a / 2) (b / 2))
+    ∙ xor-swap (pick (bit a 0) c) (pick (bit b 0) c) (xorColumns cs (a / 2)) (xorColumns cs (b / 2))
 
-pub syn-zero : (cs : List ℕ) → syn cs 0 ≡ 0
-unfolding syn bit
-syn-zero [] = refl
-syn-zero (c ∷ cs) = syn-zero cs
+pub xorColumns-zero : (cs : List ℕ) → xorColumns cs 0 ≡ 0
+unfolding xorColumns bit
+xorColumns-zero [] = refl
+xorColumns-zero (c ∷ cs) = xorColumns-zero cs
 
-pub syn-pow : (cs : List ℕ) (i : ℕ) → syn cs (2 ^ i) ≡ getD cs i 0
-unfolding syn bit
-syn-pow [] i = refl
-syn-pow (c ∷ cs) zero = ap (bitXor c) (syn-zero cs) ∙ xor-zero-r c
-syn-pow (c ∷ cs) (suc i) =
-    ap₂ (λ (x y : ℕ). bitXor (pick (isOne x) c) (syn cs y)) (pow-even i) (pow-half i) ∙ syn-pow cs i
+pub xorColumns-pow : (cs : List ℕ) (i : ℕ) → xorColumns cs (2 ^ i) ≡ getD cs i 0
+unfolding xorColumns bit
+xorColumns-pow [] i = refl
+xorColumns-pow (c ∷ cs) zero = ap (bitXor c) (xorColumns-zero cs) ∙ xor-zero-r c
+xorColumns-pow (c ∷ cs) (suc i) =
+    ap₂ (λ (x y : ℕ). bitXor (pick (isOne x) c) (xorColumns cs y)) (pow-even i) (pow-half i) ∙ xorColumns-pow cs i
 
 -- one bit flipped
-pub syn-flip : (cs : List ℕ) (w i : ℕ) → syn cs (bitXor w (2 ^ i)) ≡ bitXor (syn cs w) (getD cs i 0)
-syn-flip cs w i = syn-xor cs w (2 ^ i) ∙ ap (bitXor (syn cs w)) (syn-pow cs i)
+pub xorColumns-flip : (cs : List ℕ) (w i : ℕ) → xorColumns cs (bitXor w (2 ^ i)) ≡ bitXor (xorColumns cs w) (getD cs i 0)
+xorColumns-flip cs w i = xorColumns-xor cs w (2 ^ i) ∙ ap (bitXor (xorColumns cs w)) (xorColumns-pow cs i)
 
 -- what is put in twice is gone
 pub xor-undo : (a b : ℕ) → bitXor (bitXor a b) b ≡ a
@@ -93,22 +93,22 @@ pub at-num : (f : ℕ → ℕ) → Linear f → (x : Bool) → f (num x) ≡ pic
 at-num f l true = refl
 at-num f l false = linear-zero f l
 
-pub linear-syn : (f : ℕ → ℕ) → Linear f → (k n : ℕ) → n < 2 ^ k → f n ≡ syn (values f k) n
-unfolding syn
-linear-syn f l zero n h = ap f (lt-one h) ∙ linear-zero f l
-linear-syn f l (suc k) n h =
+pub linear-xorColumns : (f : ℕ → ℕ) → Linear f → (k n : ℕ) → n < 2 ^ k → f n ≡ xorColumns (values f k) n
+unfolding xorColumns
+linear-xorColumns f l zero n h = ap f (lt-one h) ∙ linear-zero f l
+linear-xorColumns f l (suc k) n h =
     ap f (by-low n) ∙ l .adds (num (bit n 0)) (n / 2 * 2)
-    ∙ ap₂ bitXor (at-num f l (bit n 0)) (linear-syn (λ m. f (m * 2)) (doubled f l) k (n / 2) (half-lt-pow k h))
+    ∙ ap₂ bitXor (at-num f l (bit n 0)) (linear-xorColumns (λ m. f (m * 2)) (doubled f l) k (n / 2) (half-lt-pow k h))
   where
     half-lt-pow : (j : ℕ) → n < 2 ^ suc j → n / 2 < 2 ^ j
     half-lt-pow j p = div-lt-iff-lt-mul (lit< tt) .1 (subst (λ (x : ℕ). n < x) (pow-suc 2 j) p)
 
 -- two linear maps with the same values at the k powers are the same below 2 ^ k
 pub linear-ext : (f g : ℕ → ℕ) → Linear f → Linear g → (k : ℕ) → values f k ≡ values g k → (n : ℕ) → n < 2 ^ k → f n ≡ g n
-linear-ext f g lf lg k e n h = linear-syn f lf k n h ∙ ap (λ (cs : List ℕ). syn cs n) e ∙ sym (linear-syn g lg k n h)
+linear-ext f g lf lg k e n h = linear-xorColumns f lf k n h ∙ ap (λ (cs : List ℕ). xorColumns cs n) e ∙ sym (linear-xorColumns g lg k n h)
 
-pub syn-linear : (cs : List ℕ) → Linear (syn cs)
-syn-linear cs = record { adds = syn-xor cs }
+pub xorColumns-linear : (cs : List ℕ) → Linear (xorColumns cs)
+xorColumns-linear cs = record { adds = xorColumns-xor cs }
 
 pub composed : (f g : ℕ → ℕ) → Linear f → Linear g → Linear (λ n. f (g n))
 composed f g lf lg = record { adds = λ a b. ap f (lg .adds a b) ∙ lf .adds (g a) (g b) }

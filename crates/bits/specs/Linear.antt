@@ -12,9 +12,9 @@ pick true c = c
 pick false c = 0
 
 -- the exclusive-or of the columns of the set bits of w, lowest bit first
-unfoldable pub syn : List ℕ → ℕ → ℕ
-syn [] w = 0
-syn (c ∷ cs) w = bitXor (pick (bit w 0) c) (syn cs (w / 2))
+unfoldable pub xorColumns : List ℕ → ℕ → ℕ
+xorColumns [] w = 0
+xorColumns (c ∷ cs) w = bitXor (pick (bit w 0) c) (xorColumns cs (w / 2))
 
 pub record Linear (f : ℕ → ℕ) : Type 0 where
   pub adds : (a b : ℕ) → f (bitXor a b) ≡ bitXor (f a) (f b)

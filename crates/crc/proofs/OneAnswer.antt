@@ -1,5 +1,5 @@
 -- No two answers fit one promise. Assumes nothing.
-use Rattle.paper.proofs.OneAnswer.{OneAnswer, agree}
+use Rattle.model.proofs.OneAnswer.{OneAnswer, agree}
 use Rattle.crc.proofs.crc32.Reads as crc32
 
 -- ---- no two answers of a function fit its promise

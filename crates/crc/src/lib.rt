@@ -1,6 +1,6 @@
 // The checksum: CRC-32 of IEEE 802.3, a bit at a time. (FORMAT 4)
 ghost use mathlib.Core.Path.{_≡_};
-ghost use Rattle.paper.specs.Crc.{bitsLow, stepR, serialR, Crc32, crc32};
+ghost use Rattle.model.specs.Crc.{bitsLow, stepR, serialR, Crc32, crc32};
 
 // G without x^32, the coefficient of x^31 as the lowest bit.
 const POLY: u32 = 0xEDB8_8320;

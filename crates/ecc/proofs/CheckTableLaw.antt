@@ -11,13 +11,13 @@ use lib.ListN.{length, take, set, length-set}
 use lib.Seq.{ext-getD, getD-set-same, getD-set-other}
 use lib.Pow.{shl-exact, pow-add, pow-mono, pow-pos, mod-pow-add, split}
 use Rattle.bits.specs.Bit.{isOne, bit}
-use Rattle.bits.specs.Linear.{pick, syn}
-use Rattle.bits.proofs.LinearLaw.{xor-shl, syn-xor, syn-zero}
-use Rattle.paper.specs.Bytes.{at, wordAt, tab}
-use Rattle.paper.specs.Parity.{columns, checkOf, Class, classOf, syndrome, decode, outcomeAs, outcome}
-use Rattle.paper.specs.Scan.{report, sliceWords, sliceScan}
-use Rattle.paper.proofs.BytesLaw.{length-tab, getD-tab, tab-ext}
-use Rattle.paper.proofs.ParityLaw.{check-linear}
+use Rattle.bits.specs.Linear.{pick, xorColumns}
+use Rattle.bits.proofs.LinearLaw.{xor-shl, xorColumns-xor, xorColumns-zero}
+use Rattle.model.specs.Bytes.{at, wordAt, tabulate}
+use Rattle.model.specs.Parity.{columns, checkOf, Class, classOf, syndrome, decode, outcomeAs, outcome}
+use Rattle.model.specs.Scan.{report, sliceWords, sliceScan}
+use Rattle.model.proofs.BytesLaw.{length-tabulate, getD-tabulate, tabulate-ext}
+use Rattle.model.proofs.ParityLaw.{check-linear}
 use Rattle.ecc.specs.CheckTable.{entryAt, checkTable, Filled, entryFor, entriesTo, checkWith, decodeWith, outcomeWith, sliceScanWith}
 
 -- ---- one entry
@@ -75,13 +75,13 @@ pub first : (k : ℕ) → 0 ≡ entryAt (256 * k)
 unfolding checkOf
 first k =
     let z : 256 * k + 0 ≡ 256 * k = omega arith in
-    sym (syn-zero (take 64 columns)) ∙ ap checkOf (sym (zero-mul (2 ^ (8 * k)))) ∙ sym (entry k 0 (lit< tt)) ∙ ap entryAt z
+    sym (xorColumns-zero (take 64 columns)) ∙ ap checkOf (sym (zero-mul (2 ^ (8 * k)))) ∙ sym (entry k 0 (lit< tt)) ∙ ap entryAt z
 
 pub all-filled : (t : List ℕ) → Filled 2048 t → t ≡ checkTable
 unfolding checkTable
 all-filled t f =
-    ext-getD 0 t (tab 2048 entryAt) (f .long ∙ sym (length-tab 2048 entryAt))
-    (λ i h. f .right i (omega (arith, f .long)) ∙ sym (getD-tab 2048 entryAt i 0 (omega (arith, f .long))))
+    ext-getD 0 t (tabulate 2048 entryAt) (f .long ∙ sym (length-tabulate 2048 entryAt))
+    (λ i h. f .right i (omega (arith, f .long)) ∙ sym (getD-tabulate 2048 entryAt i 0 (omega (arith, f .long))))
 
 -- ---- a word by its places
 
@@ -93,13 +93,13 @@ unfolding checkWith entriesTo
 eight t w p q r s u v x y =
     ap₂ bitXor (ap₂ bitXor (ap₂ bitXor (ap₂ bitXor (ap₂ bitXor (ap₂ bitXor (ap₂ bitXor p q) r) s) u) v) x) y
 
-syn-past : (cs : List ℕ) (n : ℕ) → syn cs (n * 2 ^ length cs) ≡ 0
-unfolding syn bit
-syn-past [] n = refl
-syn-past (c ∷ cs) n =
-    ap (λ (w : ℕ). bitXor (pick (isOne (w % 2)) c) (syn cs (w / 2))) shifted
-    ∙ ap₂ (λ (x y : ℕ). bitXor (pick (isOne x) c) (syn cs y)) (mul-mod-left m 2) (mul-div-cancel m (lit< tt))
-    ∙ syn-past cs n
+xorColumns-past : (cs : List ℕ) (n : ℕ) → xorColumns cs (n * 2 ^ length cs) ≡ 0
+unfolding xorColumns bit
+xorColumns-past [] n = refl
+xorColumns-past (c ∷ cs) n =
+    ap (λ (w : ℕ). bitXor (pick (isOne (w % 2)) c) (xorColumns cs (w / 2))) shifted
+    ∙ ap₂ (λ (x y : ℕ). bitXor (pick (isOne x) c) (xorColumns cs y)) (mul-mod-left m 2) (mul-div-cancel m (lit< tt))
+    ∙ xorColumns-past cs n
   where
     m : ℕ
     m = n * 2 ^ length cs
@@ -112,7 +112,7 @@ module _ (w : ℕ) where
   unfolding checkTable
   table-entry k h =
       let b : w / 2 ^ (8 * k) % 256 < 256 = mod-lt (w / 2 ^ (8 * k)) (lit< tt) in
-      getD-tab 2048 entryAt (256 * k + w / 2 ^ (8 * k) % 256) 0 (omega arith) ∙ entry k (w / 2 ^ (8 * k) % 256) b
+      getD-tabulate 2048 entryAt (256 * k + w / 2 ^ (8 * k) % 256) 0 (omega arith) ∙ entry k (w / 2 ^ (8 * k) % 256) b
 
   -- places 0 to k make the check byte of the word's low 8 * (k + 1) bits
   table-low : (k : ℕ) → k < 8 → entriesTo checkTable w k ≡ checkOf (w % 2 ^ (8 * (k + 1)))
@@ -123,7 +123,7 @@ module _ (w : ℕ) where
       let n : 8 + 8 * suc k ≡ 8 * (suc k + 1) = omega arith in
       let q = w / 2 ^ (8 * suc k) % 256 in
       ap₂ bitXor (table-low k (omega arith) ∙ ap (λ (i : ℕ). checkOf (w % 2 ^ i)) m) (table-entry (suc k) h)
-      ∙ sym (syn-xor (take 64 columns) (w % 2 ^ (8 * suc k)) (q * 2 ^ (8 * suc k)))
+      ∙ sym (xorColumns-xor (take 64 columns) (w % 2 ^ (8 * suc k)) (q * 2 ^ (8 * suc k)))
       ∙ ap checkOf
       (xor-comm (w % 2 ^ (8 * suc k)) (q * 2 ^ (8 * suc k))
       ∙ xor-shifted q (8 * suc k) (w % 2 ^ (8 * suc k)) (mod-lt w (pow-pos (8 * suc k)))
@@ -133,9 +133,9 @@ module _ (w : ℕ) where
   low-bits : checkOf (w % 2 ^ 64) ≡ checkOf w
   unfolding checkOf columns
   low-bits =
-      sym (ap (λ (n : ℕ). bitXor n (syn (take 64 columns) (w % 2 ^ 64))) (syn-past (take 64 columns) (w / 2 ^ 64)))
-      ∙ sym (syn-xor (take 64 columns) (w / 2 ^ 64 * 2 ^ 64) (w % 2 ^ 64))
-      ∙ ap (syn (take 64 columns)) (xor-shifted (w / 2 ^ 64) 64 (w % 2 ^ 64) (mod-lt w (pow-pos 64)) ∙ split w 64)
+      sym (ap (λ (n : ℕ). bitXor n (xorColumns (take 64 columns) (w % 2 ^ 64))) (xorColumns-past (take 64 columns) (w / 2 ^ 64)))
+      ∙ sym (xorColumns-xor (take 64 columns) (w / 2 ^ 64 * 2 ^ 64) (w % 2 ^ 64))
+      ∙ ap (xorColumns (take 64 columns)) (xor-shifted (w / 2 ^ 64) 64 (w % 2 ^ 64) (mod-lt w (pow-pos 64)) ∙ split w 64)
 
   pub table-check : checkWith checkTable w ≡ checkOf w
   unfolding checkWith
@@ -155,5 +155,5 @@ pub table-scan : (x plane : List ℕ) → sliceScanWith checkTable x plane ≡ s
 unfolding sliceScanWith sliceScan
 table-scan x plane =
     ap report
-    (tab-ext (sliceWords x plane) (λ w. decodeWith checkTable (wordAt x w) (at plane w)) (λ w. decode (wordAt x w) (at plane w))
+    (tabulate-ext (sliceWords x plane) (λ w. decodeWith checkTable (wordAt x w) (at plane w)) (λ w. decode (wordAt x w) (at plane w))
     (λ w h. table-decode (wordAt x w) (at plane w)))

@@ -2,9 +2,9 @@
 use mathlib.Core.Path.{_≡_, refl, sym, ap, _∙_}
 use mathlib.Core.Option.{Option, none, some}
 use denote.Ref.{now}
-use Rattle.paper.specs.Parity.{Outcome, cleanWord, correctedWord, uncorrectableWord}
-use Rattle.paper.specs.Scan.{Report}
-use Rattle.paper.proofs.OneAnswer.{OneAnswer, OneAnswerAnd, agree}
+use Rattle.model.specs.Parity.{Outcome, cleanWord, correctedWord, uncorrectableWord}
+use Rattle.model.specs.Scan.{Report}
+use Rattle.model.proofs.OneAnswer.{OneAnswer, OneAnswerAnd, agree}
 use Rattle.ecc.specs.declared.WordStatus.{WordStatus}
 use Rattle.ecc.specs.declared.WordStatus.the-variants.{Clean, Corrected, Uncorrectable}
 use Rattle.ecc.specs.declared.PlaneWord.{PlaneWord}

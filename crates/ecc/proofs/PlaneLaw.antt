@@ -9,10 +9,10 @@ use borrow.Author.Tests.{lt-ltb, le-ltb}
 use lib.Bits.{bitXor}
 use lib.ListN.{length, drop}
 use lib.Seq.{drop-length}
-use Rattle.paper.specs.Bytes.{at, readIn, wordAt, tab}
-use Rattle.paper.specs.Parity.{Class, classOf, Outcome, outcome}
-use Rattle.paper.specs.Scan.{isCorrected, isLost, total, report, sliceWords, sliceWord}
-use Rattle.paper.proofs.BytesLaw.{length-tab, drop-tab}
+use Rattle.model.specs.Bytes.{at, readIn, wordAt, tabulate}
+use Rattle.model.specs.Parity.{Class, classOf, Outcome, outcome}
+use Rattle.model.specs.Scan.{isCorrected, isUncorrectable, total, report, sliceWords, sliceWord}
+use Rattle.model.proofs.BytesLaw.{length-tabulate, drop-tabulate}
 use Rattle.scalar.specs.Answers.{orZero}
 use Rattle.scalar.proofs.OrZero.{or-zero-in}
 use Rattle.ecc.specs.CheckTable.{checkWith, decodeWith, sliceScanWith}
@@ -44,7 +44,7 @@ module _ (x plane : List ℕ) where
 
 -- the classes of the words by a table
 abbrev pub classes : List ℕ → List ℕ → List ℕ → List Class
-classes t x plane = tab (sliceWords x plane) (λ w. decodeWith t (wordAt x w) (at plane w))
+classes t x plane = tabulate (sliceWords x plane) (λ w. decodeWith t (wordAt x w) (at plane w))
 
 -- `n` and the count of the words from `w` on are the count of all
 abbrev pub Counted : (Class → ℕ) → List ℕ → List ℕ → List ℕ → ℕ → ℕ → Type 0
@@ -54,14 +54,14 @@ module _ (t x plane : List ℕ) where
   one-more : (f : Class → ℕ) (w : ℕ) → w < sliceWords x plane
       → total f (drop w (classes t x plane)) ≡ f (decodeWith t (wordAt x w) (at plane w)) + total f (drop (w + 1) (classes t x plane))
   unfolding total
-  one-more f w h = rw (add-one, drop-tab (sliceWords x plane) (λ i. decodeWith t (wordAt x i) (at plane i)) w h)
+  one-more f w h = rw (add-one, drop-tabulate (sliceWords x plane) (λ i. decodeWith t (wordAt x i) (at plane i)) w h)
 
   pub turn : (f : Class → ℕ) (w n m : ℕ) → w < sliceWords x plane → m ≡ n + f (decodeWith t (wordAt x w) (at plane w))
       → Counted f t x plane w n → Counted f t x plane (w + 1) m
   turn f w n m h e inv = omega (arith, one-more f w h)
 
   length-classes : length (classes t x plane) ≡ sliceWords x plane
-  length-classes = length-tab (sliceWords x plane) (λ w. decodeWith t (wordAt x w) (at plane w))
+  length-classes = length-tabulate (sliceWords x plane) (λ w. decodeWith t (wordAt x w) (at plane w))
 
   all : (f : Class → ℕ) (w n : ℕ) → w ≡ sliceWords x plane → Counted f t x plane w n → n ≡ total f (classes t x plane)
   unfolding total
@@ -69,7 +69,7 @@ module _ (t x plane : List ℕ) where
       let d : drop w (classes t x plane) ≡ [] = ap (λ (k : ℕ). drop k (classes t x plane)) (e ∙ sym length-classes) ∙ drop-length (classes t x plane) in
       omega (arith, ap (total f) d)
 
-  pub scanned : (w n k : ℕ) → w ≡ sliceWords x plane → Counted isCorrected t x plane w n → Counted isLost t x plane w k
+  pub scanned : (w n k : ℕ) → w ≡ sliceWords x plane → Counted isCorrected t x plane w n → Counted isUncorrectable t x plane w k
       → record { words = w; corrected = n; uncorrectable = k } ≡ sliceScanWith t x plane
   unfolding sliceScanWith report
-  scanned w n k e f g = rw (all isCorrected w n e f, all isLost w k e g, length-classes, e)
+  scanned w n k e f g = rw (all isCorrected w n e f, all isUncorrectable w k e g, length-classes, e)

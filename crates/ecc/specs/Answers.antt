@@ -3,8 +3,8 @@ use Prim.Native.Nat.{ℕ}
 use mathlib.Core.Bool.{cond}
 use mathlib.Core.Option.{Option, none, some}
 use lib.Dec.{ltb}
-use Rattle.paper.specs.Parity.{Class, flipped, beyond, Outcome, cleanWord, correctedWord, uncorrectableWord}
-use Rattle.paper.specs.Scan.{Report}
+use Rattle.model.specs.Parity.{Class, flipped, uncorrectable, Outcome, cleanWord, correctedWord, uncorrectableWord}
+use Rattle.model.specs.Scan.{Report}
 use Rattle.ecc.specs.declared.WordStatus.{WordStatus}
 use Rattle.ecc.specs.declared.WordStatus.the-variants.{Clean, Corrected, Uncorrectable}
 use Rattle.ecc.specs.declared.PlaneWord.{PlaneWord}
@@ -32,4 +32,4 @@ placeIn (some i) = i
 
 -- the class of bit i of the 72, and of none, 72
 abbrev pub classOfBit : ℕ → Class
-classOfBit i = cond (ltb i 72) (flipped i) beyond
+classOfBit i = cond (ltb i 72) (flipped i) uncorrectable

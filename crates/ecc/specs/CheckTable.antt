@@ -4,9 +4,9 @@ use mathlib.Core.List.{List}
 use Prim.Native.Nat.{ℕ, zero, suc, _+_, _*_, _/_, _%_, _^_, _<_}
 use lib.Bits.{bitXor}
 use lib.ListN.{length}
-use Rattle.paper.specs.Bytes.{at, wordAt, tab}
-use Rattle.paper.specs.Parity.{checkOf, Class, classOf, Outcome, outcomeAs}
-use Rattle.paper.specs.Scan.{Report, report, sliceWords}
+use Rattle.model.specs.Bytes.{at, wordAt, tabulate}
+use Rattle.model.specs.Parity.{checkOf, Class, classOf, Outcome, outcomeAs}
+use Rattle.model.specs.Scan.{Report, report, sliceWords}
 
 -- ---- the table
 
@@ -15,7 +15,7 @@ unfoldable pub entryAt : ℕ → ℕ
 entryAt i = checkOf (i % 256 * 2 ^ (8 * (i / 256)))
 
 unfoldable pub checkTable : List ℕ
-checkTable = tab 2048 entryAt
+checkTable = tabulate 2048 entryAt
 
 -- xs is the table
 abbrev pub IsCheckTable : List ℕ → Type 0
@@ -47,4 +47,4 @@ unfoldable pub outcomeWith : List ℕ → ℕ → ℕ → Outcome
 outcomeWith t w c = outcomeAs (decodeWith t w c) w
 
 unfoldable pub sliceScanWith : List ℕ → List ℕ → List ℕ → Report
-sliceScanWith t data′ plane = report (tab (sliceWords data′ plane) (λ w. decodeWith t (wordAt data′ w) (at plane w)))
+sliceScanWith t data′ plane = report (tabulate (sliceWords data′ plane) (λ w. decodeWith t (wordAt data′ w) (at plane w)))

@@ -2,8 +2,8 @@
 // linear, so that of a word is the exclusive-or of the entries of its eight bytes.
 ghost use mathlib.Core.Path.{_≡_};
 ghost use Prim.Native.Nat.{_+_, _*_, _^_, _<_};
-ghost use Rattle.paper.specs.Bytes.{at};
-ghost use Rattle.paper.specs.Parity as paper;
+ghost use Rattle.model.specs.Bytes.{at};
+ghost use Rattle.model.specs.Parity as model;
 ghost use Rattle.ecc.specs.Answers.{asOutcome, asReport};
 ghost use Rattle.ecc.specs.CheckTable.{IsCheckTable, Filled, entryFor, checkWith, outcomeWith, sliceScanWith};
 use super::COLUMNS;
@@ -20,7 +20,7 @@ pub const EMPTY_TABLE: CheckTable = [0u8; 2048];
 
 // The entries of place k whose byte has bit i as its highest: those below with the column of that bit put in, sixteen at once.
 fn fill_bit(table: &mut CheckTable, k: usize, i: usize, column: u8)
-    requires { ⌜ (k < 8) × (i < 8) × (column ≡ at paper.columns (8 * k + i)) × Filled (256 * k + 2 ^ i) (now table) ⌝ }
+    requires { ⌜ (k < 8) × (i < 8) × (column ≡ at model.columns (8 * k + i)) × Filled (256 * k + 2 ^ i) (now table) ⌝ }
     ensures { λ _. ⌜ Filled (256 * k + 2 ^ (i + 1)) (now (table .exit)) ⌝ }
 {
     let first = 256 * k;
@@ -34,7 +34,7 @@ fn fill_bit(table: &mut CheckTable, k: usize, i: usize, column: u8)
 
 // The 256 entries of place k.
 fn fill_place(table: &mut CheckTable, columns: &[u8; 72], k: usize)
-    requires { ⌜ (k < 8) × (now columns ≡ paper.columns) × Filled (256 * k) (now table) ⌝ }
+    requires { ⌜ (k < 8) × (now columns ≡ model.columns) × Filled (256 * k) (now table) ⌝ }
     ensures { λ _. ⌜ Filled (256 * (k + 1)) (now (table .exit)) ⌝ }
 {
     table[256 * k] = 0;

@@ -6,8 +6,8 @@ ghost use mathlib.Core.Bool.{_&&_};
 ghost use Prim.Native.Nat.{_-_, _*_, _≤_};
 ghost use lib.Dec.{eqb, ltb};
 ghost use lib.ListN.{length};
-ghost use Rattle.paper.specs.Parity.{columns, find, checkOf, classOf, outcomeAs, outcome, planeKind};
-ghost use Rattle.paper.specs.Scan.{isCorrected, isLost, sliceWords, sliceWord, sliceScan};
+ghost use Rattle.model.specs.Parity.{columns, find, checkOf, classOf, outcomeAs, outcome, planeKind};
+ghost use Rattle.model.specs.Scan.{isCorrected, isUncorrectable, sliceWords, sliceWord, sliceScan};
 ghost use Rattle.ecc.specs.Answers.{asOutcome, asWord, asReport, placeIn, classOfBit};
 pub use check_table::CheckTable;
 pub use check_table::EMPTY_TABLE;
@@ -235,7 +235,7 @@ pub fn plane_word(parity: &[u8], data: &[u8], index: usize) -> PlaneWord
 // What a word whose syndrome is not 0 adds to the corrected ones; it adds the rest of 1 to the uncorrectable ones.
 fn one_if_corrected(syndrome: u8) -> usize
     requires { ⌜ (syndrome ≡ 0 → ⊥) ⌝ }
-    ensures { λ r. ⌜ (r ≡ isCorrected (classOf syndrome)) × (1 - r ≡ isLost (classOf syndrome)) × (r ≤ 1) ⌝ }
+    ensures { λ r. ⌜ (r ≡ isCorrected (classOf syndrome)) × (1 - r ≡ isUncorrectable (classOf syndrome)) × (r ≤ 1) ⌝ }
 {
     if flipped_bit(syndrome) < 72 { 1 } else { 0 }
 }

@@ -3,8 +3,8 @@ use mathlib.Core.Path.{_≡_, refl, sym, ap₂, _∙_}
 use mathlib.Core.List.{List, [], _∷_}
 use Prim.Native.Nat.{ℕ}
 use lib.ListN.{getD}
-use Rattle.paper.specs.Refusals.{Verdict, refuse}
-use Rattle.paper.proofs.OneAnswer.{OneAnswer, agree}
+use Rattle.model.specs.Refusals.{Verdict, refuse}
+use Rattle.model.proofs.OneAnswer.{OneAnswer, agree}
 use Rattle.error.specs.declared.Refusal.{Refusal}
 use Rattle.error.specs.declared.Refusal.the-variants.{Truncated, BadMagic, ForeignEndian, UnsupportedVersion, BadPrologueChecksum, TooManyRegions, RegionOutOfBounds, DuplicateRegion, BadRecordStride, Overflow, TooLarge, OverlappingRegions, NoRoom, BadPlan}
 use Rattle.error.specs.Refused.{numberOf, detailOf, asVerdict}

@@ -1,6 +1,6 @@
 -- A refusal as the paper gives it, its number and its detail, and a check's verdict. (FORMAT 2)
 use Prim.Native.Nat.{ℕ}
-use Rattle.paper.specs.Refusals.{truncated, badMagic, foreignEndian, unsupportedVersion, badPrologueChecksum, tooManyRegions, regionOutOfBounds, duplicateRegion, badRecordStride, overflow, tooLarge, overlappingRegions, noRoom, badPlan, Verdict, fine, refuse}
+use Rattle.model.specs.Refusals.{truncated, badMagic, foreignEndian, unsupportedVersion, badPrologueChecksum, tooManyRegions, regionOutOfBounds, duplicateRegion, badRecordStride, overflow, tooLarge, overlappingRegions, noRoom, badPlan, Verdict, fine, refuse}
 use Rattle.error.specs.declared.Refusal.{Refusal}
 use Rattle.error.specs.declared.Refusal.the-variants.{Truncated, BadMagic, ForeignEndian, UnsupportedVersion, BadPrologueChecksum, TooManyRegions, RegionOutOfBounds, DuplicateRegion, BadRecordStride, Overflow, TooLarge, OverlappingRegions, NoRoom, BadPlan}
 use Rattle.error.specs.declared.Check.{Check}

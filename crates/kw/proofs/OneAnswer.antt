@@ -1,7 +1,7 @@
 -- No two answers fit one promise, nor two sets of numbers or bytes that are left. Assumes nothing.
 use mathlib.Core.Path.{refl}
 use denote.Ref.{now}
-use Rattle.paper.proofs.OneAnswer.{OneAnswerAnd, OneAnswerAndBoth, Reading, agree}
+use Rattle.model.proofs.OneAnswer.{OneAnswerAnd, OneAnswerAndBoth, Reading, agree}
 use Rattle.kw.proofs.kw_parse.Reads as kw-parse
 use Rattle.kw.proofs.kw_scan.Reads as kw-scan
 use Rattle.kw.proofs.kw_scrub.Reads as kw-scrub

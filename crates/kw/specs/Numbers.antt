@@ -4,9 +4,9 @@ use mathlib.Core.List.{List, [], _∷_, _++_}
 use mathlib.Core.Option.{Option, none, some}
 use Prim.Native.Nat.{ℕ}
 use Rattle.bits.specs.Bit.{num}
-use Rattle.paper.specs.Parse.{Parsed, accepted, refused}
-use Rattle.paper.specs.Scan.{Report}
-use Rattle.paper.specs.Mend.{MendAnswer, mended, refusedMend}
+use Rattle.model.specs.Parse.{Parsed, accepted, refused}
+use Rattle.model.specs.Scan.{Report}
+use Rattle.model.specs.Mend.{MendAnswer, mended, refusedMend}
 
 -- what is returned: 0, or the refusal's number
 abbrev pub refusalNumber : Parsed → ℕ

@@ -1,7 +1,7 @@
 -- What kw_write gives back in numbers. (FORMAT 2, 9)
 use mathlib.Core.List.{List, [], _∷_}
 use Prim.Native.Nat.{ℕ}
-use Rattle.paper.specs.Writer as paper
+use Rattle.model.specs.Writer as model
 use Rattle.writer.specs.Answers.{WriteAnswer, wrote, refused, answerOf}
 
 -- 0, or the refusal's number
@@ -14,8 +14,8 @@ abbrev pub answerIn : WriteAnswer → List ℕ
 answerIn (wrote n) = n ∷ []
 answerIn (refused n d) = d ∷ []
 
-abbrev pub writeNumber : paper.Written → ℕ
+abbrev pub writeNumber : model.Written → ℕ
 writeNumber w = numberIn (answerOf w)
 
-abbrev pub writeAnswer : paper.Written → List ℕ
+abbrev pub writeAnswer : model.Written → List ℕ
 writeAnswer w = answerIn (answerOf w)

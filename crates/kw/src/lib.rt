@@ -1,11 +1,11 @@
 // The C face: what firmware calls (include/kw.h). A `&[u8]` is a pointer and a length to C, a `&mut [u64; 4]` one pointer. Every number
 // of an answer is written at every call; nothing is allocated.
 ghost use mathlib.Core.Path.{_≡_};
-ghost use Rattle.paper.specs.Parse.{parse};
-ghost use Rattle.paper.specs.Scan.{scan};
-ghost use Rattle.paper.specs.Scrub.{scrub};
-ghost use Rattle.paper.specs.Mend.{mend};
-ghost use Rattle.paper.specs.Writer as paper;
+ghost use Rattle.model.specs.Parse.{parse};
+ghost use Rattle.model.specs.Scan.{scan};
+ghost use Rattle.model.specs.Scrub.{scrub};
+ghost use Rattle.model.specs.Mend.{mend};
+ghost use Rattle.model.specs.Writer as model;
 ghost use lib.ListN.{length};
 ghost use Rattle.writer.specs.Answers.{asPlan, asWritten, bytesAfter};
 ghost use Rattle.repair.specs.Answers.{leftBy};
@@ -134,9 +134,9 @@ pub extern "C" fn kw_write(
     out: &mut [u8],
     answer: &mut [u64; 1],
 ) -> u32
-    ensures { λ r. ⌜ (r ≡ writeNumber (paper.write (asPlan (now (rows .entry))) (now (payload .entry)) (length (now (out .entry)))))
-        × (now (answer .exit) ≡ writeAnswer (paper.write (asPlan (now (rows .entry))) (now (payload .entry)) (length (now (out .entry)))))
-        × (now (out .exit) ≡ bytesAfter (paper.write (asPlan (now (rows .entry))) (now (payload .entry)) (length (now (out .entry)))) (now (out .entry))) ⌝ }
+    ensures { λ r. ⌜ (r ≡ writeNumber (model.write (asPlan (now (rows .entry))) (now (payload .entry)) (length (now (out .entry)))))
+        × (now (answer .exit) ≡ writeAnswer (model.write (asPlan (now (rows .entry))) (now (payload .entry)) (length (now (out .entry)))))
+        × (now (out .exit) ≡ bytesAfter (model.write (asPlan (now (rows .entry))) (now (payload .entry)) (length (now (out .entry)))) (now (out .entry))) ⌝ }
 {
     let result = writer::write(rows, payload, out);
     write_numbers(result, answer)

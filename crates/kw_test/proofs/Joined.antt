@@ -7,9 +7,9 @@ use Prim.Native.Nat.{ℕ}
 use lib.Dec.{eqb}
 use lib.ListN.{length, getD}
 use Rattle.bits.specs.Bit.{num}
-use Rattle.paper.specs.Parity.{Outcome, cleanWord, correctedWord, uncorrectableWord}
-use Rattle.paper.specs.Scan.{Report, sliceWord, sliceScan}
-use Rattle.paper.specs.Views.{Range, partIn, recordCount, recordRange, rangeIsForward, poolRange}
+use Rattle.model.specs.Parity.{Outcome, cleanWord, correctedWord, uncorrectableWord}
+use Rattle.model.specs.Scan.{Report, sliceWord, sliceScan}
+use Rattle.model.specs.Views.{Range, partIn, recordCount, recordRange, rangeIsForward, poolRange}
 use Rattle.kw_test.specs.Numbers.{wordNumbers}
 use Rattle.kw_test.specs.Reader.{placeNumbers, partNumbers}
 use Rattle.kw_test.specs.Held.{tableOf, strideOf, tableNumbers, partAnswer, planeAnswer}

@@ -1,7 +1,7 @@
 -- No two answers fit one promise, nor two sets of numbers or bytes that are left. Assumes nothing.
 use mathlib.Core.Path.{refl}
 use denote.Ref.{now}
-use Rattle.paper.proofs.OneAnswer.{OneAnswer, OneAnswerAnd, OneAnswerAndBoth, agree}
+use Rattle.model.proofs.OneAnswer.{OneAnswer, OneAnswerAnd, OneAnswerAndBoth, agree}
 use Rattle.kw_test.proofs.kwt_u8_at.Reads as kwt-u8-at
 use Rattle.kw_test.proofs.kwt_u16_at.Reads as kwt-u16-at
 use Rattle.kw_test.proofs.kwt_u32_at.Reads as kwt-u32-at

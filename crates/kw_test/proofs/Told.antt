@@ -7,7 +7,7 @@ use mathlib.Core.Option.{Option, none, some}
 use Prim.Native.Nat.{ℕ}
 use mir.Val.{boolByte}
 use Rattle.bits.specs.Bit.{num}
-use Rattle.paper.specs.Layout.{Entry}
+use Rattle.model.specs.Layout.{Entry}
 use Rattle.view.specs.Answers.{foundAs}
 use Rattle.kw_test.specs.Numbers.{asNumbers}
 use Rattle.kw_test.specs.Reader.{foundNumbers, entryNumbers}

@@ -6,9 +6,9 @@ use Prim.Native.Nat.{ℕ}
 use lib.Dec.{eqb}
 use lib.ListN.{length}
 use Rattle.bits.specs.Bit.{num}
-use Rattle.paper.specs.Parity.{Outcome}
-use Rattle.paper.specs.Scan.{Report}
-use Rattle.paper.specs.Views.{Range, isTable, recordCount}
+use Rattle.model.specs.Parity.{Outcome}
+use Rattle.model.specs.Scan.{Report}
+use Rattle.model.specs.Views.{Range, isTable, recordCount}
 use Rattle.kw_test.specs.Numbers.{wordNumbers, countNumbers}
 use Rattle.kw_test.specs.Reader.{placeNumbers, partNumbers}
 

@@ -4,9 +4,9 @@ use mathlib.Core.List.{List, [], _∷_}
 use mathlib.Core.Option.{Option, none, some}
 use Prim.Native.Nat.{ℕ, _*_}
 use Rattle.bits.specs.Bit.{num}
-use Rattle.paper.specs.Layout.{isEncrypted, isPlane, hasParity}
-use Rattle.paper.specs.Parity.{Outcome, cleanWord, correctedWord, uncorrectableWord}
-use Rattle.paper.specs.Scan.{Report}
+use Rattle.model.specs.Layout.{isEncrypted, isPlane, hasParity}
+use Rattle.model.specs.Parity.{Outcome, cleanWord, correctedWord, uncorrectableWord}
+use Rattle.model.specs.Scan.{Report}
 
 -- 1 and the number, or 0 and 0
 abbrev pub asNumbers : Option ℕ → List ℕ

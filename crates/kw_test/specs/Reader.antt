@@ -4,11 +4,11 @@ use mathlib.Core.Option.{Option, none, some}
 use Prim.Native.Nat.{ℕ}
 use lib.ListN.{length}
 use Rattle.bits.specs.Bit.{num}
-use Rattle.paper.specs.Crc.{crc32}
-use Rattle.paper.specs.Layout.{Entry}
-use Rattle.paper.specs.Parse.{Parsed, accepted, refused}
-use Rattle.paper.specs.Views.{Range, Span, span, noSpan}
-use Rattle.paper.specs.Scan.{Report}
+use Rattle.model.specs.Crc.{crc32}
+use Rattle.model.specs.Layout.{Entry}
+use Rattle.model.specs.Parse.{Parsed, accepted, refused}
+use Rattle.model.specs.Views.{Range, Span, span, noSpan}
+use Rattle.model.specs.Scan.{Report}
 use Rattle.view.specs.declared.regions.RegionAt.{RegionAt}
 use Rattle.view.specs.declared.regions.RegionAt.the-variants.{Found, Nothing}
 
@@ -30,7 +30,7 @@ foundNumbers Nothing = 0 ∷ 0 ∷ 0 ∷ 0 ∷ 0 ∷ 0 ∷ []
 -- an entry of these fields; no answer depends on the reserved one
 abbrev pub entryWith : ℕ → ℕ → ℕ → ℕ → ℕ → Entry
 entryWith kind flags offset words covers =
-    record { kind = kind; flags = flags; offset = offset; words = words; covers = covers; spare = 0 }
+    record { kind = kind; flags = flags; offset = offset; words = words; covers = covers; reserved = 0 }
 
 -- one with this offset and length: no place depends on the rest
 abbrev pub entryAt : ℕ → ℕ → Entry

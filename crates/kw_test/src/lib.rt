@@ -3,12 +3,12 @@
 ghost use mathlib.Core.Path.{_≡_};
 ghost use mathlib.Core.Bool.{_&&_};
 ghost use lib.Dec.{eqb, ltb};
-ghost use Rattle.paper.specs.Bytes.{readIn, le};
-ghost use Rattle.paper.specs.Crc as checksum;
-ghost use Rattle.paper.specs.Layout.{wordsFor, headerBytes};
-ghost use Rattle.paper.specs.Layout as paper;
-ghost use Rattle.paper.specs.Parity.{planeKind, checkOf, outcome};
-ghost use Rattle.paper.specs.Scan.{sliceWord, sliceScan};
+ghost use Rattle.model.specs.Bytes.{readIn, leBytes};
+ghost use Rattle.model.specs.Crc as checksum;
+ghost use Rattle.model.specs.Layout.{wordsFor, headerBytes};
+ghost use Rattle.model.specs.Layout as model;
+ghost use Rattle.model.specs.Parity.{planeKind, checkOf, outcome};
+ghost use Rattle.model.specs.Scan.{sliceWord, sliceScan};
 ghost use Rattle.ecc.specs.Answers.{asWord};
 ghost use Rattle.kw_test.specs.Numbers.{asNumbers, regionNumbers, outcomeNumbers, wordNumbers, countNumbers, answersNumbers};
 use ecc::EccReport;
@@ -69,35 +69,35 @@ pub extern "C" fn kwt_u64_at(b: &[u8], at: usize, answer: &mut [u64; 2])
 
 #[no_mangle]
 pub extern "C" fn kwt_u8_bytes(v: u8, out: &mut [u8; 1])
-    ensures { λ _. ⌜ now (out .exit) ≡ le 1 v ⌝ }
+    ensures { λ _. ⌜ now (out .exit) ≡ leBytes 1 v ⌝ }
 {
     *out = scalar::u8_bytes(v);
 }
 
 #[no_mangle]
 pub extern "C" fn kwt_u16_bytes(v: u16, out: &mut [u8; 2])
-    ensures { λ _. ⌜ now (out .exit) ≡ le 2 v ⌝ }
+    ensures { λ _. ⌜ now (out .exit) ≡ leBytes 2 v ⌝ }
 {
     *out = scalar::u16_bytes(v);
 }
 
 #[no_mangle]
 pub extern "C" fn kwt_u32_bytes(v: u32, out: &mut [u8; 4])
-    ensures { λ _. ⌜ now (out .exit) ≡ le 4 v ⌝ }
+    ensures { λ _. ⌜ now (out .exit) ≡ leBytes 4 v ⌝ }
 {
     *out = scalar::u32_bytes(v);
 }
 
 #[no_mangle]
 pub extern "C" fn kwt_u64_bytes(v: u64, out: &mut [u8; 8])
-    ensures { λ _. ⌜ now (out .exit) ≡ le 8 v ⌝ }
+    ensures { λ _. ⌜ now (out .exit) ≡ leBytes 8 v ⌝ }
 {
     *out = scalar::u64_bytes(v);
 }
 
 #[no_mangle]
 pub extern "C" fn kwt_maj3(a: u8, b: u8, c: u8) -> u8
-    ensures { λ r. ⌜ r ≡ paper.maj3 a b c ⌝ }
+    ensures { λ r. ⌜ r ≡ model.maj3 a b c ⌝ }
 {
     scalar::maj3(a, b, c)
 }

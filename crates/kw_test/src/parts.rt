@@ -4,7 +4,7 @@ ghost use mathlib.Core.Path.{_≡_};
 ghost use lib.ListN.{length};
 ghost use Rattle.bits.specs.Bit.{num};
 ghost use Rattle.layout.specs.Regions.{regionOf};
-ghost use Rattle.paper.specs.Views.{partOf, partIn, bytesSpan, tableSpan, isTable, recordCount, recordRange, rangeIsForward, poolRange};
+ghost use Rattle.model.specs.Views.{partOf, partIn, bytesSpan, tableSpan, isTable, recordCount, recordRange, rangeIsForward, poolRange};
 ghost use Rattle.tables.specs.Answers.{asSpan};
 ghost use Rattle.kw_test.specs.Reader.{spanNumbers, placeNumbers, partNumbers, entryAt};
 use super::reader::place_numbers;

@@ -1,7 +1,7 @@
 // Parse and lookups. A lookup's header is made of the count alone: no lookup reads the two marks.
 ghost use mathlib.Core.Path.{_≡_};
-ghost use Rattle.paper.specs.Parse as paper;
-ghost use Rattle.paper.specs.Views.{regionAt, findRegion, eccFor};
+ghost use Rattle.model.specs.Parse as model;
+ghost use Rattle.model.specs.Views.{regionAt, findRegion, eccFor};
 ghost use Rattle.tables.specs.Answers.{asPlace};
 ghost use Rattle.kw_test.specs.Reader.{parsedNumbers, foundNumbers, entryNumbers, placeNumbers};
 use layout::Region;
@@ -48,7 +48,7 @@ pub(crate) fn place_numbers(place: Place) -> [u64; 3]
 // {0, the number of regions, prologue copies disagreed, directory copies disagreed}, or {number, detail, 0, 0} of a refusal.
 #[no_mangle]
 pub extern "C" fn kwt_parse(bytes: &[u8], answer: &mut [u64; 4])
-    ensures { λ _. ⌜ now (answer .exit) ≡ parsedNumbers (paper.parse (now (bytes .entry))) ⌝ }
+    ensures { λ _. ⌜ now (answer .exit) ≡ parsedNumbers (model.parse (now (bytes .entry))) ⌝ }
 {
     match view::parse(bytes) {
         ParseResult::Parsed(h) => {

@@ -1,7 +1,7 @@
 // Scans, and scrub: {1, words, corrected, uncorrectable}, or zeros for nothing.
 ghost use mathlib.Core.Path.{_≡_};
-ghost use Rattle.paper.specs.Scan.{scanRegion, scanIn};
-ghost use Rattle.paper.specs.Scrub as paper;
+ghost use Rattle.model.specs.Scan.{scanRegion, scanIn};
+ghost use Rattle.model.specs.Scrub as model;
 ghost use Rattle.scan.specs.Answers.{asScan};
 ghost use Rattle.kw_test.specs.Reader.{scanAnswer, entryWith};
 use super::reader::header_of;
@@ -54,8 +54,8 @@ pub extern "C" fn kwt_verify_all(bytes: &[u8], count: u16, answer: &mut [u64; 4]
 
 #[no_mangle]
 pub extern "C" fn kwt_scrub(bytes: &mut [u8], answer: &mut [u64; 4])
-    ensures is { λ _. ⌜ now (answer .exit) ≡ scanAnswer (paper.scrub (now (bytes .entry)) .report) ⌝ }
-    ensures leaves { λ _. ⌜ now (bytes .exit) ≡ paper.scrub (now (bytes .entry)) .image ⌝ }
+    ensures is { λ _. ⌜ now (answer .exit) ≡ scanAnswer (model.scrub (now (bytes .entry)) .report) ⌝ }
+    ensures leaves { λ _. ⌜ now (bytes .exit) ≡ model.scrub (now (bytes .entry)) .image ⌝ }
 {
     *answer = scan_numbers(repair::scrub(bytes));
 }

@@ -4,8 +4,8 @@ ghost use mathlib.Core.Path.{_≡_};
 ghost use mathlib.Core.List.{_∷_, [], _++_};
 ghost use lib.ListN.{length};
 ghost use Rattle.bits.specs.Bit.{num};
-ghost use Rattle.paper.specs.Scan.{sliceWord, sliceScan};
-ghost use Rattle.paper.specs.Views.{partIn, recordCount, recordRange, rangeIsForward, poolRange};
+ghost use Rattle.model.specs.Scan.{sliceWord, sliceScan};
+ghost use Rattle.model.specs.Views.{partIn, recordCount, recordRange, rangeIsForward, poolRange};
 ghost use Rattle.tables.specs.Answers.{asPlace};
 ghost use Rattle.ecc.specs.Answers.{asWord, asReport};
 ghost use Rattle.kw_test.specs.Reader.{partNumbers};
@@ -15,9 +15,9 @@ use super::reader::place_numbers;
 use super::word_numbers;
 use ecc::EccReport;
 use ecc::PlaneWord;
-use held::EccPlane;
-use held::Pool;
-use held::RecordTable;
+use borrowed::EccPlane;
+use borrowed::Pool;
+use borrowed::RecordTable;
 use tables::Place;
 
 fn size_answer(len: usize, empty: bool, stride: usize) -> [u64; 3]

@@ -1,11 +1,11 @@
--- No two answers fit one promise. (`asPaper` tells every two sizes apart.) Assumes nothing.
+-- No two answers fit one promise. (`asModel` tells every two sizes apart.) Assumes nothing.
 use mathlib.Core.Path.{_≡_, refl}
 use mathlib.Core.Option.{Option, none, some}
 use Prim.Native.Nat.{ℕ}
-use Rattle.paper.proofs.OneAnswer.{OneAnswer, agree}
+use Rattle.model.proofs.OneAnswer.{OneAnswer, agree}
 use Rattle.layout.specs.declared.Size.{Size}
 use Rattle.layout.specs.declared.Size.the-variants.{Of, Nothing}
-use Rattle.layout.specs.Sizes.{asPaper}
+use Rattle.layout.specs.Sizes.{asModel}
 use Rattle.layout.proofs.Region.byte_offset.Reads as byte-offset
 use Rattle.layout.proofs.Region.byte_length.Reads as byte-length
 use Rattle.layout.proofs.Region.is_encrypted.Reads as is-encrypted
@@ -15,7 +15,7 @@ use Rattle.layout.proofs.Region.is_protected.Reads as is-protected
 use Rattle.layout.proofs.words_for.Reads as words-for
 use Rattle.layout.proofs.header_bytes.Reads as header-bytes
 
-pub one-size : (a b : Size) → asPaper a ≡ asPaper b → a ≡ b
+pub one-size : (a b : Size) → asModel a ≡ asModel b → a ≡ b
 one-size (Of m) (Of n) e = cc
 one-size (Of m) Nothing e = cc
 one-size Nothing (Of n) e = cc

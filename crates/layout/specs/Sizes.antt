@@ -4,6 +4,6 @@ use Prim.Native.Nat.{ℕ}
 use Rattle.layout.specs.declared.Size.{Size}
 use Rattle.layout.specs.declared.Size.the-variants.{Of, Nothing}
 
-abbrev pub asPaper : Size → Option ℕ
-asPaper (Of n) = some n
-asPaper Nothing = none
+abbrev pub asModel : Size → Option ℕ
+asModel (Of n) = some n
+asModel Nothing = none

@@ -1,10 +1,10 @@
 // The container's constants and limits, a directory entry as a value, and three sizes.
 ghost use mathlib.Core.Path.{_≡_};
 ghost use Prim.Native.Nat.{_*_};
-ghost use Rattle.paper.specs.Layout.{isEncrypted, isPlane, hasParity, headerLength, wordsFor, headerBytes};
-ghost use Rattle.paper.specs.Scan.{isProtected};
+ghost use Rattle.model.specs.Layout.{isEncrypted, isPlane, hasParity, headerLength, wordsFor, headerBytes};
+ghost use Rattle.model.specs.Scan.{isProtected};
 ghost use Rattle.layout.specs.Regions.{asEntry};
-ghost use Rattle.layout.specs.Sizes.{asPaper};
+ghost use Rattle.layout.specs.Sizes.{asModel};
 
 // Bytes of a word. Every region and record is a whole number of words.
 pub const WORD: usize = 8;
@@ -101,7 +101,7 @@ pub enum Size {
 
 // Rounds a byte count up to a whole number of words.
 pub fn words_for(bytes: usize) -> Size
-    ensures { λ r. ⌜ asPaper r ≡ wordsFor bytes ⌝ }
+    ensures { λ r. ⌜ asModel r ≡ wordsFor bytes ⌝ }
 {
     if LARGEST - (WORD - 1) < bytes {
         return Size::Nothing;
@@ -111,7 +111,7 @@ pub fn words_for(bytes: usize) -> Size
 
 // The length in bytes of all copies of the prologue and of the directory.
 pub fn header_bytes(region_count: usize) -> Size
-    ensures { λ r. ⌜ asPaper r ≡ headerBytes «region_count» ⌝ }
+    ensures { λ r. ⌜ asModel r ≡ headerBytes «region_count» ⌝ }
 {
     if (LARGEST - DIRECTORY_OFFSET) / (DIR_ENTRY_BYTES * COPIES) < region_count {
         return Size::Nothing;

@@ -3,11 +3,11 @@ use mathlib.Core.Path.{_≡_, sym, ap, _∙_, subst}
 use mathlib.Core.List.{List, []}
 use Prim.Native.Nat.{ℕ, _≤_}
 use native.Mathlib.Omega.{arith}
-use Rattle.paper.specs.Layout.{directory}
-use Rattle.paper.specs.Parse.{Parsed, accepted, parse}
-use Rattle.paper.specs.Views.{seen}
-use Rattle.paper.specs.Mend.{mendVerdict, refusedPlacement, placementFrom, placementOf, placement, placementVerdict}
-use Rattle.paper.proofs.ParseLaw.{accepted-few}
+use Rattle.model.specs.Layout.{directory}
+use Rattle.model.specs.Parse.{Parsed, accepted, parse}
+use Rattle.model.specs.Views.{entriesFor}
+use Rattle.model.specs.Mend.{mendVerdict, refusedPlacement, placementFrom, placementOf, placement, placementVerdict}
+use Rattle.model.proofs.ParseLaw.{accepted-few}
 use Rattle.error.specs.declared.Refusal.{Refusal}
 use Rattle.error.specs.Refused.{numberOf, detailOf}
 use Rattle.view.specs.declared.header.Header.{Header}
@@ -15,9 +15,9 @@ use Rattle.view.specs.declared.header.ParseResult.{ParseResult}
 use Rattle.view.specs.declared.header.ParseResult.the-variants as parsed
 use Rattle.view.specs.Answers.{asHeader, asParsed}
 use Rattle.view.proofs.AnswersLaw.{parsed-fine, parsed-count}
-use Rattle.view.proofs.SeenLaw.{seen-is}
-use Rattle.paper.specs.Placement.{TrueOf}
-use Rattle.laws.proofs.PlacementLaw.{placement-verdict, placement-named}
+use Rattle.view.proofs.EntriesForLaw.{entriesFor-is}
+use Rattle.model.specs.Placement.{TrueOf}
+use Rattle.lemmas.proofs.PlacementLaw.{placement-verdict, placement-named}
 use Rattle.overlap.specs.declared.Placement.{Placement}
 use Rattle.overlap.specs.declared.Placement.the-variants as is
 use Rattle.overlap.specs.Answers.{asPlacement}
@@ -33,10 +33,10 @@ module _ (x : List ℕ) (r : ParseResult) (e : asParsed r ≡ parse x) where
     pub few : h .«region_count» ≤ 1024
     few = omega (arith, parsed-count x r e h f, accepted-few x (parsed-fine x r e h f))
 
-    pub parse-accepted : placementFrom (asHeader h) 0 [] (seen (h .«region_count») x) ≡ placement x
+    pub parse-accepted : placementFrom (asHeader h) 0 [] (entriesFor (h .«region_count») x) ≡ placement x
     unfolding placement
     parse-accepted =
-        ap (placementFrom (asHeader h) 0 []) (ap (λ (n : ℕ). seen n x) (parsed-count x r e h f) ∙ seen-is x (parsed-fine x r e h f))
+        ap (placementFrom (asHeader h) 0 []) (ap (λ (n : ℕ). entriesFor n x) (parsed-count x r e h f) ∙ entriesFor-is x (parsed-fine x r e h f))
         ∙ ap (λ (p : Parsed). placementOf p (directory x)) (ap asParsed (sym f) ∙ e)
 
 -- ---- from the answer

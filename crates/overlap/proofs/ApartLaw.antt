@@ -8,19 +8,19 @@ use native.Mathlib.Omega.{arith}
 use borrow.Author.Tests.{lt-ltb, le-ltb}
 use lib.Dec.{ltb}
 use lib.ListN.{length, take, drop, drop-of-length-le}
-use Rattle.paper.specs.Layout.{Entry, headerLength}
-use Rattle.paper.specs.Views.{nth, seen, regionAt}
-use Rattle.paper.specs.Parse.{Header}
-use Rattle.paper.specs.Mend.{meets, meetsFrom, inHeader, Placement, placedApart, overHeader, overRegion, placementAs, placementFrom}
+use Rattle.model.specs.Layout.{Entry, headerLength}
+use Rattle.model.specs.Views.{nth, entriesFor, regionAt}
+use Rattle.model.specs.Parse.{Header}
+use Rattle.model.specs.Mend.{meets, meetsFrom, inHeader, Placement, placedApart, overHeader, overRegion, placementAs, placementFrom}
 use Rattle.layout.specs.declared.Region.{Region}
 use Rattle.layout.specs.Regions.{asEntry, regionOf}
-use Rattle.paper.proofs.WalkLaw.{nth-gone, nth-there}
+use Rattle.model.proofs.WalkLaw.{nth-gone, nth-there}
 use Rattle.view.specs.Answers.{foundAs}
 use Rattle.view.specs.declared.regions.RegionAt.{RegionAt}
 use Rattle.view.specs.declared.regions.RegionAt.the-variants as is
 use Rattle.view.proofs.AnswersLaw.{found-some, found-none}
-use Rattle.view.proofs.SeenLaw.{length-seen}
-use Rattle.laws.proofs.VerdictLaw.{and-false}
+use Rattle.view.proofs.EntriesForLaw.{length-entriesFor}
+use Rattle.lemmas.proofs.VerdictLaw.{and-false}
 use Rattle.overlap.specs.declared.Overlap.{Overlap}
 use Rattle.overlap.specs.declared.Overlap.the-variants as on
 use Rattle.overlap.specs.Answers.{overlapAs}
@@ -112,28 +112,28 @@ on-nothing false none i p e = refl
 
 -- at entry i of an image with a header h: r is what is found there
 module _ (h : Header) (x : List ℕ) (i : ℕ) (r : RegionAt) (f : r ≡ foundAs (regionAt (h .regions) x i)) where
-  pub left-gone : r ≡ is.Nothing → leftFrom h (seen (h .regions) x) i ≡ placedApart h
+  pub left-gone : r ≡ is.Nothing → leftFrom h (entriesFor (h .regions) x) i ≡ placedApart h
   unfolding leftFrom placementFrom regionAt
-  left-gone g = ap (placementFrom h i (take i (seen (h .regions) x))) (nth-gone (seen (h .regions) x) i (found-none (nth i (seen (h .regions) x)) (sym g ∙ f)))
+  left-gone g = ap (placementFrom h i (take i (entriesFor (h .regions) x))) (nth-gone (entriesFor (h .regions) x) i (found-none (nth i (entriesFor (h .regions) x)) (sym g ∙ f)))
 
-  module _ (p : Region) (g : r ≡ is.Found p) (o : Overlap) (l : o ≡ overlapAs (inHeader (h .regions) (asEntry p)) (meetsFrom 0 (asEntry p) (take i (seen (h .regions) x)))) where
-    entry : (e : Entry) × (nth i (seen (h .regions) x) ≡ some e) × (p ≡ regionOf e)
+  module _ (p : Region) (g : r ≡ is.Found p) (o : Overlap) (l : o ≡ overlapAs (inHeader (h .regions) (asEntry p)) (meetsFrom 0 (asEntry p) (take i (entriesFor (h .regions) x)))) where
+    entry : (e : Entry) × (nth i (entriesFor (h .regions) x) ≡ some e) × (p ≡ regionOf e)
     unfolding regionAt
-    entry = found-some (nth i (seen (h .regions) x)) p (sym g ∙ f)
+    entry = found-some (nth i (entriesFor (h .regions) x)) p (sym g ∙ f)
 
     abbrev in-header : Bool
     in-header = inHeader (h .regions) (entry .0)
 
     abbrev met : Option ℕ
-    met = meetsFrom 0 (entry .0) (take i (seen (h .regions) x))
+    met = meetsFrom 0 (entry .0) (take i (entriesFor (h .regions) x))
 
     abbrev behind : Placement
-    behind = leftFrom h (seen (h .regions) x) (suc i)
+    behind = leftFrom h (entriesFor (h .regions) x) (suc i)
 
-    opened : leftFrom h (seen (h .regions) x) i ≡ placementAs in-header met i behind
+    opened : leftFrom h (entriesFor (h .regions) x) i ≡ placementAs in-header met i behind
     unfolding leftFrom placementFrom
     opened =
-        let es = seen (h .regions) x in
+        let es = entriesFor (h .regions) x in
         ap (placementFrom h i (take i es)) (nth-there es i (entry .0) (entry .1))
         ∙ ap (λ (k : List Entry). placementAs in-header met i (placementFrom h (suc i) k (drop (suc i) es)))
         (take-next es i (entry .0) (entry .1))
@@ -141,21 +141,21 @@ module _ (h : Header) (x : List ℕ) (i : ℕ) (r : RegionAt) (f : r ≡ foundAs
     lies : o ≡ overlapAs in-header met
     unfolding inHeader
     lies =
-        let es = seen (h .regions) x in
+        let es = entriesFor (h .regions) x in
         l ∙ ap (λ (q : Region). overlapAs (inHeader (h .regions) (asEntry q)) (meetsFrom 0 (asEntry q) (take i es))) (entry .2)
         ∙ ap (overlapAs in-header) (same-from 0 (entry .0) (take i es))
 
-    pub left-header : o ≡ on.Header → leftFrom h (seen (h .regions) x) i ≡ overHeader i
+    pub left-header : o ≡ on.Header → leftFrom h (entriesFor (h .regions) x) i ≡ overHeader i
     left-header k = opened ∙ on-header in-header met i behind (sym k ∙ lies)
 
-    pub left-region : (j : ℕ) → o ≡ on.Region j → leftFrom h (seen (h .regions) x) i ≡ overRegion i j
+    pub left-region : (j : ℕ) → o ≡ on.Region j → leftFrom h (entriesFor (h .regions) x) i ≡ overRegion i j
     left-region j k = opened ∙ on-region in-header met i j behind (sym k ∙ lies)
 
-    pub left-next : o ≡ on.Nothing → leftFrom h (seen (h .regions) x) i ≡ behind
+    pub left-next : o ≡ on.Nothing → leftFrom h (entriesFor (h .regions) x) i ≡ behind
     left-next k = opened ∙ on-nothing in-header met i behind (sym k ∙ lies)
 
-pub left-done : (h : Header) (x : List ℕ) (i : ℕ) → h .regions ≤ i → leftFrom h (seen (h .regions) x) i ≡ placedApart h
+pub left-done : (h : Header) (x : List ℕ) (i : ℕ) → h .regions ≤ i → leftFrom h (entriesFor (h .regions) x) i ≡ placedApart h
 unfolding leftFrom placementFrom
 left-done h x i l =
-    let s : length (seen (h .regions) x) ≤ i = omega (arith, length-seen (h .regions) x) in
-    ap (placementFrom h i (take i (seen (h .regions) x))) (drop-of-length-le (seen (h .regions) x) s)
+    let s : length (entriesFor (h .regions) x) ≤ i = omega (arith, length-entriesFor (h .regions) x) in
+    ap (placementFrom h i (take i (entriesFor (h .regions) x))) (drop-of-length-le (entriesFor (h .regions) x) s)

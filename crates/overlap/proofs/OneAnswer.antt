@@ -1,6 +1,6 @@
 -- No two answers fit one promise. (`asPlacement` tells every two apart.) Assumes nothing.
 use mathlib.Core.Path.{_≡_, ap, ap₂}
-use Rattle.paper.proofs.OneAnswer.{OneAnswer, agree}
+use Rattle.model.proofs.OneAnswer.{OneAnswer, agree}
 use Rattle.error.specs.Refused.{asVerdict}
 use Rattle.error.proofs.OneAnswer.{one-refusal}
 use Rattle.view.specs.Answers.{asHeader}

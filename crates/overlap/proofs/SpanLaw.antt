@@ -11,18 +11,18 @@ use borrow.Author.Tests.{eq-eqb, ne-eqb, lt-ltb, le-ltb, le-leb, lt-leb}
 use lib.Dec.{eqb, ltb, leb}
 use lib.ListN.{length, take, drop, set, length-set}
 use lib.Seq.{getD-set-same, getD-set-other}
-use Rattle.paper.specs.Bytes.{at}
-use Rattle.paper.specs.Layout.{Entry, headerLength}
-use Rattle.paper.specs.Views.{nth, seen, regionAt}
-use Rattle.paper.specs.Mend.{meets, meetsFrom, inHeader}
+use Rattle.model.specs.Bytes.{at}
+use Rattle.model.specs.Layout.{Entry, headerLength}
+use Rattle.model.specs.Views.{nth, entriesFor, regionAt}
+use Rattle.model.specs.Mend.{meets, meetsFrom, inHeader}
 use Rattle.layout.specs.declared.Region.{Region}
 use Rattle.layout.specs.Regions.{asEntry, regionOf}
 use Rattle.view.specs.Answers.{foundAs}
 use Rattle.view.specs.declared.regions.RegionAt.{RegionAt}
 use Rattle.view.specs.declared.regions.RegionAt.the-variants as is
 use Rattle.view.proofs.AnswersLaw.{found-some}
-use Rattle.paper.specs.Placement.{isSome}
-use Rattle.paper.proofs.WalkLaw.{nth-there}
+use Rattle.model.specs.Placement.{isSome}
+use Rattle.model.proofs.WalkLaw.{nth-there}
 use Rattle.overlap.proofs.ApartLaw.{empty-right, starts-past, meets-else, lies-behind}
 use Rattle.overlap.specs.declared.Overlap.the-variants as on
 use Rattle.overlap.specs.Answers.{overlapAs}
@@ -183,12 +183,12 @@ module _ (es : List Entry) (xs : List ℕ) (i : ℕ) (high : ℕ) (s : Spans es 
         }
 
   -- r is what was found at entry i of an image
-  pub spans-next : (c : ℕ) (x : List ℕ) → es ≡ seen c x → (r : RegionAt) → r ≡ foundAs (regionAt c x i) → (p : Region) → r ≡ is.Found p
+  pub spans-next : (c : ℕ) (x : List ℕ) → es ≡ entriesFor c x → (r : RegionAt) → r ≡ foundAs (regionAt c x i) → (p : Region) → r ≡ is.Found p
       → p .«word_offset» < 2 ^ 32 → (a b : ℕ) → a ≡ p .«word_offset» → b ≡ lastWord (asEntry p) → (top : ℕ) → top ≡ max (p .«word_offset» + p .«word_length») high
       → Spans es (suc i) (set (set xs i a) (1024 + i) b) top
   unfolding ys regionAt
   spans-next c x q r f p g l a b u w top m =
-      let k = found-some (nth i (seen c x)) p (sym g ∙ f) in
+      let k = found-some (nth i (entriesFor c x)) p (sym g ∙ f) in
       let o = ap (λ (z : Region). z .«word_offset») (k .2) in
       let d = ap (λ (z : Region). z .«word_offset» + z .«word_length») (k .2) in
       let m₁ = le-max-left (p .«word_offset» + p .«word_length») high in

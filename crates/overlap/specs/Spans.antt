@@ -5,9 +5,9 @@ use mathlib.Core.List.{List}
 use mathlib.Core.Option.{Option, none, some}
 use Prim.Native.Nat.{ℕ, zero, suc, _+_, _-_, _^_, _<_, _≤_}
 use lib.Dec.{eqb, ltb, leb}
-use Rattle.paper.specs.Bytes.{at}
-use Rattle.paper.specs.Layout.{Entry}
-use Rattle.paper.specs.Views.{nth}
+use Rattle.model.specs.Bytes.{at}
+use Rattle.model.specs.Layout.{Entry}
+use Rattle.model.specs.Views.{nth}
 
 -- a last word of more bits becomes the largest number of 32; 0 for an empty entry
 unfoldable pub lastWord : Entry → ℕ

@@ -5,10 +5,10 @@ ghost use mathlib.Core.List.{List, []};
 ghost use Prim.Native.Nat.{_+_, _^_, _<_, _≤_, max};
 ghost use lib.Dec.{leb};
 ghost use lib.ListN.{length, take};
-ghost use Rattle.paper.specs.Layout.{Entry};
-ghost use Rattle.paper.specs.Views.{seen};
-ghost use Rattle.paper.specs.Mend as paper;
-ghost use Rattle.paper.specs.Placement.{isSome};
+ghost use Rattle.model.specs.Layout.{Entry};
+ghost use Rattle.model.specs.Views.{entriesFor};
+ghost use Rattle.model.specs.Mend as model;
+ghost use Rattle.model.specs.Placement.{isSome};
 ghost use Rattle.layout.specs.Regions.{asEntry};
 ghost use Rattle.view.specs.Answers.{asHeader};
 ghost use Rattle.overlap.specs.Answers.{asPlacement, overlapAs};
@@ -39,7 +39,7 @@ enum Overlap {
 }
 
 pub fn check_placement(bytes: &[u8]) -> Placement
-    ensures { λ r. ⌜ asPlacement r ≡ paper.placement (now (bytes .entry)) ⌝ }
+    ensures { λ r. ⌜ asPlacement r ≡ model.placement (now (bytes .entry)) ⌝ }
 {
     match parse(bytes) {
         ParseResult::Refused(refusal) => Placement::Refused(refusal),
@@ -50,7 +50,7 @@ pub fn check_placement(bytes: &[u8]) -> Placement
 // The room for the spans is on this function's stack alone.
 fn check_regions(bytes: &[u8], header: Header) -> Placement
     requires { ⌜ header .«region_count» ≤ 1024 ⌝ }
-    ensures { λ r. ⌜ asPlacement r ≡ paper.placementFrom (asHeader header) 0 [] (seen (header .«region_count») (now (bytes .entry))) ⌝ }
+    ensures { λ r. ⌜ asPlacement r ≡ model.placementFrom (asHeader header) 0 [] (entriesFor (header .«region_count») (now (bytes .entry))) ⌝ }
 {
     let mut spans = [0u32; 2048];
     check_spans(bytes, header, &mut spans)
@@ -59,7 +59,7 @@ fn check_regions(bytes: &[u8], header: Header) -> Placement
 // With room for the first and the last word of each entry, so that each is voted once.
 fn check_spans(bytes: &[u8], header: Header, spans: &mut [u32; 2048]) -> Placement
     requires { ⌜ (header .«region_count» ≤ 1024) × (length (now spans) ≡ 2048) ⌝ }
-    ensures { λ r. ⌜ asPlacement r ≡ paper.placementFrom (asHeader header) 0 [] (seen (header .«region_count») (now (bytes .entry))) ⌝ }
+    ensures { λ r. ⌜ asPlacement r ≡ model.placementFrom (asHeader header) 0 [] (entriesFor (header .«region_count») (now (bytes .entry))) ⌝ }
 {
     let n = header.region_count;
     let mut high: usize = 0;
@@ -92,7 +92,7 @@ fn check_spans(bytes: &[u8], header: Header, spans: &mut [u32; 2048]) -> Placeme
 fn overlap_at(spans: &[u32; 2048], n: u16, i: u16, high: usize, region: Region) -> Overlap
     requires { ⌜ i < 1024 ⌝ }
     ensures { λ r. ⌜ ((es : List Entry) → Spans es i (now (spans .entry)) high
-        → r ≡ overlapAs (paper.inHeader n (asEntry region)) (paper.meetsFrom 0 (asEntry region) (take i es))) ⌝ }
+        → r ≡ overlapAs (model.inHeader n (asEntry region)) (model.meetsFrom 0 (asEntry region) (take i es))) ⌝ }
 {
     if region.word_length == 0 {
         return Overlap::Nothing;

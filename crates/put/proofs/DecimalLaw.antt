@@ -9,7 +9,7 @@ use lib.Dec.{ltb, lit<}
 use borrow.Author.Tests.{lt-ltb, le-ltb}
 use Rattle.io.specs.Digits.{glyph, Fewest}
 use Rattle.io.specs.Digits as kit
-use Rattle.paper.specs.Programs.{digit, digits, decimal}
+use Rattle.model.specs.Programs.{digit, digits, decimal}
 
 ten-pos : (j : ℕ) → 0 < 10 ^ j
 ten-pos zero = lit< tt

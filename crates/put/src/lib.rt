@@ -3,8 +3,8 @@
 ghost use mathlib.Core.List.{_++_};
 ghost use Prim.Native.Nat.{_+_, _≤_};
 ghost use lib.ListN.{length, replicate};
-ghost use Rattle.paper.specs.Bytes.{le};
-ghost use Rattle.paper.specs.Programs.{decimal};
+ghost use Rattle.model.specs.Bytes.{leBytes};
+ghost use Rattle.model.specs.Programs.{decimal};
 ghost use Rattle.put.specs.Put.{Put};
 use scalar::u16_bytes;
 use scalar::u32_bytes;
@@ -35,7 +35,7 @@ pub fn put_zeros(out: &mut [u8], at: usize, n: usize) -> usize
 
 pub fn put_u16(out: &mut [u8], at: usize, v: u16) -> usize
     requires { ⌜ at + 2 ≤ length (now out) ⌝ }
-    ensures { λ r. ⌜ Put (now (out .entry)) at (le 2 v) r (now (out .exit)) ⌝ }
+    ensures { λ r. ⌜ Put (now (out .entry)) at (leBytes 2 v) r (now (out .exit)) ⌝ }
 {
     let bytes = u16_bytes(v);
     put_bytes(out, at, &bytes)
@@ -43,7 +43,7 @@ pub fn put_u16(out: &mut [u8], at: usize, v: u16) -> usize
 
 pub fn put_u32(out: &mut [u8], at: usize, v: u32) -> usize
     requires { ⌜ at + 4 ≤ length (now out) ⌝ }
-    ensures { λ r. ⌜ Put (now (out .entry)) at (le 4 v) r (now (out .exit)) ⌝ }
+    ensures { λ r. ⌜ Put (now (out .entry)) at (leBytes 4 v) r (now (out .exit)) ⌝ }
 {
     let bytes = u32_bytes(v);
     put_bytes(out, at, &bytes)

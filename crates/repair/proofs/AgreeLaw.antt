@@ -8,19 +8,19 @@ use borrow.Author.Tests.{eqb-true, not-false}
 use lib.Dec.{eqb}
 use lib.ListN.{length, drop}
 use lib.Seq.{drop-drop}
-use Rattle.paper.specs.Bytes.{thrice}
-use Rattle.paper.specs.Layout.{prologue, count, headerLength, directoryBytes, differs, prologueOff, directoryOff, scrubWanted, header}
-use Rattle.paper.specs.Refusals.{Verdict, fine, refuse}
-use Rattle.paper.specs.Parse as paper
-use Rattle.paper.specs.Parse.{accepted, parsedAs, parseVerdict, headerOf}
-use Rattle.paper.proofs.BytesLaw.{length-thrice}
-use Rattle.paper.proofs.LayoutLaw.{length-prologue, length-directoryBytes}
+use Rattle.model.specs.Bytes.{thrice}
+use Rattle.model.specs.Layout.{prologue, count, headerLength, directoryBytes, differs, prologueOff, directoryOff, scrubWanted, header}
+use Rattle.model.specs.Refusals.{Verdict, fine, refuse}
+use Rattle.model.specs.Parse as model
+use Rattle.model.specs.Parse.{accepted, parsedAs, parseVerdict, headerOf}
+use Rattle.model.proofs.BytesLaw.{length-thrice}
+use Rattle.model.proofs.LayoutLaw.{length-prologue, length-directoryBytes}
 use Rattle.view.specs.declared.header.Header.{Header}
 use Rattle.view.specs.declared.header.ParseResult.{ParseResult}
 use Rattle.view.specs.declared.header.ParseResult.the-variants.{Parsed}
 use Rattle.view.specs.Answers.{asParsed}
-use Rattle.laws.specs.Steps.{mendHeader}
-use Rattle.laws.proofs.VerdictLaw.{or-left, or-right}
+use Rattle.lemmas.specs.Steps.{mendHeader}
+use Rattle.lemmas.proofs.VerdictLaw.{or-left, or-right}
 
 -- a list that does not differ from v begins with v
 same-front : (v x : List ℕ) → differs v x ≡ false → v ++ drop (length v) x ≡ x
@@ -46,12 +46,12 @@ nothing-wanted x e =
 
 -- ---- parse's marks say whether one does
 
-as-header : (v : Verdict) (h g : paper.Header) → accepted h ≡ parsedAs v g → h ≡ g
+as-header : (v : Verdict) (h g : model.Header) → accepted h ≡ parsedAs v g → h ≡ g
 as-header fine h g e = cc
 as-header (refuse n d) h g e = let z : _≡_ {A = ℕ} 0 1 = cc in absurd (omega arith)
 
-pub parsed-wanted : (x : List ℕ) (r : ParseResult) → asParsed r ≡ paper.parse x → (h : Header) → r ≡ Parsed h
+pub parsed-wanted : (x : List ℕ) (r : ParseResult) → asParsed r ≡ model.parse x → (h : Header) → r ≡ Parsed h
     → h .«prologue_disagreed» || h .«directory_disagreed» ≡ scrubWanted x
-unfolding paper.parse headerOf scrubWanted
+unfolding model.parse headerOf scrubWanted
 parsed-wanted x r e h f =
-    ap (λ (g : paper.Header). g .prologueDisagreed || g .directoryDisagreed) (as-header (parseVerdict x) _ (headerOf x) (ap asParsed (sym f) ∙ e))
+    ap (λ (g : model.Header). g .prologueDisagreed || g .directoryDisagreed) (as-header (parseVerdict x) _ (headerOf x) (ap asParsed (sym f) ∙ e))

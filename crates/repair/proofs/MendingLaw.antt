@@ -7,25 +7,25 @@ use native.Mathlib.Omega.{arith}
 use borrow.Author.Tests.{le-ltb}
 use lib.ListN.{length, take, drop, take-append-drop}
 use lib.Seq.{take-all}
-use Rattle.paper.specs.Bytes.{Bytes}
-use Rattle.paper.specs.Refusals.{fine, refuse}
-use Rattle.paper.specs.Layout.{Entry, count, headerLength, directory, directoryOf}
-use Rattle.paper.specs.Parse.{parseVerdict}
-use Rattle.paper.specs.Views.{nth, seen, regionAt}
-use Rattle.paper.specs.Scan.{Visit, visitsOver, visits, Pair, Among, pairsFrom, examinedIn, examined, total, classesAt, report, scanOf, scan, scanIn}
-use Rattle.paper.specs.Scrub.{visitAt}
-use Rattle.paper.specs.Mend as paper
-use Rattle.paper.specs.Mend.{mendVerdict, fixAt, fixAll, mendBytes, changed, mend}
-use Rattle.paper.proofs.LayoutLaw.{length-directoryOf}
-use Rattle.paper.proofs.ScanLaw.{anyOf, any-append, examined-append, scan-all, visits-append, visits-to}
-use Rattle.view.proofs.SeenLaw.{seen-is}
-use Rattle.laws.specs.Steps.{mendHeader, mendWords}
-use Rattle.laws.proofs.HeaderLaw.{SameHeader, header-kept, same-directory, same-visits}
-use Rattle.laws.proofs.HeaderHalf.{header-keeps, header-verdict, header-size, header-then-words, header-examined, header-word, header-check}
-use Rattle.laws.proofs.PairLaw.{among-left, classes-ext}
-use Rattle.laws.proofs.Fold.{AllApart, nil, cons, all-length, all-other, fixAll-append}
-use Rattle.laws.proofs.Apart.{accepted, apart, past}
-use Rattle.laws.proofs.StoredLaw.{stored-count}
+use Rattle.model.specs.Bytes.{Bytes}
+use Rattle.model.specs.Refusals.{fine, refuse}
+use Rattle.model.specs.Layout.{Entry, count, headerLength, directory, directoryOf}
+use Rattle.model.specs.Parse.{parseVerdict}
+use Rattle.model.specs.Views.{nth, entriesFor, regionAt}
+use Rattle.model.specs.Scan.{Visit, visitsOver, visits, Codeword, Among, codewordsFrom, codewordsIn, codewords, total, classesAt, report, scanOf, scan, scanIn}
+use Rattle.model.specs.Scrub.{visitAt}
+use Rattle.model.specs.Mend as model
+use Rattle.model.specs.Mend.{mendVerdict, fixAt, fixAll, mendBytes, changed, mend}
+use Rattle.model.proofs.LayoutLaw.{length-directoryOf}
+use Rattle.model.proofs.ScanLaw.{anyOf, any-append, codewords-append, scan-all, visits-append, visits-to}
+use Rattle.view.proofs.EntriesForLaw.{entriesFor-is}
+use Rattle.lemmas.specs.Steps.{mendHeader, mendWords}
+use Rattle.lemmas.proofs.HeaderLaw.{SameHeader, header-kept, same-directory, same-visits}
+use Rattle.lemmas.proofs.HeaderHalf.{header-keeps, header-verdict, header-size, header-then-words, header-codewords, header-word, header-check}
+use Rattle.lemmas.proofs.CodewordLaw.{among-left, classes-ext}
+use Rattle.lemmas.proofs.Fold.{AllApart, nil, cons, all-length, all-other, fixAll-append}
+use Rattle.lemmas.proofs.Apart.{accepted, apart, past}
+use Rattle.lemmas.proofs.StoredLaw.{stored-count}
 use Rattle.repair.proofs.SettleLaw.{header-part}
 use Rattle.scan.specs.Tally.{Totals, noTotals, tallied, marked, withClasses, reportedBy}
 use Rattle.scan.proofs.TallyLaw.{tally-append}
@@ -36,22 +36,22 @@ use Rattle.scan.specs.Runs.{visitsAt}
 -- ---- a run of words
 
 pub fix-next : (n word check k : ℕ) (x : List ℕ) → k < n
-    → fixAll (pairsFrom (n - k) (word + k) (check + k)) x
-    ≡ fixAll (pairsFrom (n - (k + 1)) (word + (k + 1)) (check + (k + 1))) (fixAt (record { word = word + k; check = check + k }) x)
-unfolding fixAll pairsFrom
+    → fixAll (codewordsFrom (n - k) (word + k) (check + k)) x
+    ≡ fixAll (codewordsFrom (n - (k + 1)) (word + (k + 1)) (check + (k + 1))) (fixAt (record { word = word + k; check = check + k }) x)
+unfolding fixAll codewordsFrom
 fix-next n word check k x h =
     let e : n - k ≡ suc (n - (k + 1)) = omega arith in
     let a : suc (word + k) ≡ word + (k + 1) = omega arith in
     let b : suc (check + k) ≡ check + (k + 1) = omega arith in
     rw (e, a, b)
 
-pub fix-done : (n word check k : ℕ) (x : List ℕ) → n ≤ k → fixAll (pairsFrom (n - k) (word + k) (check + k)) x ≡ x
-unfolding fixAll pairsFrom
+pub fix-done : (n word check k : ℕ) (x : List ℕ) → n ≤ k → fixAll (codewordsFrom (n - k) (word + k) (check + k)) x ≡ x
+unfolding fixAll codewordsFrom
 fix-done n word check k x h = let e : n - k ≡ 0 = omega arith in rw e
 
 -- ---- the entries before i are done
 
-apart-left : {len : ℕ} (xs ys : List Pair) → AllApart len (xs ++ ys) → AllApart len xs
+apart-left : {len : ℕ} (xs ys : List Codeword) → AllApart len (xs ++ ys) → AllApart len xs
 apart-left [] ys a = nil
 apart-left (p ∷ xs) ys (cons s f r) = cons s (λ q c m. f q c (among-left xs ys m)) (apart-left xs ys r)
 
@@ -67,33 +67,33 @@ unfolding visits
 all-visits x i h = ap (visitsOver (length x) (directory x)) (take-all i (directory x) (omega (arith, length-directory x)))
 
 unfoldable pub fixedTo : List ℕ → ℕ → List ℕ
-fixedTo x i = fixAll (examinedIn (firstVisits x i)) x
+fixedTo x i = fixAll (codewordsIn (firstVisits x i)) x
 
 -- what is counted by then
 unfoldable pub talliedTo : List ℕ → ℕ → Totals
-talliedTo x i = tallied (anyOf (firstVisits x i)) (met x (examinedIn (firstVisits x i)))
+talliedTo x i = tallied (anyOf (firstVisits x i)) (met x (codewordsIn (firstVisits x i)))
 
 pub none-fixed : (x : List ℕ) → fixedTo x 0 ≡ x
-unfolding fixedTo fixAll visitsOver examinedIn
+unfolding fixedTo fixAll visitsOver codewordsIn
 none-fixed x = refl
 
 pub none-tallied : (x : List ℕ) → talliedTo x 0 ≡ noTotals
-unfolding talliedTo report met visitsOver examinedIn total
+unfolding talliedTo report met visitsOver codewordsIn total
 none-tallied x = refl
 
 module _ (x : List ℕ) (v : mendVerdict x ≡ fine) (b : Bytes x) where
-  first : ℕ → List Pair
-  first i = examinedIn (firstVisits x i)
+  first : ℕ → List Codeword
+  first i = codewordsIn (firstVisits x i)
 
-  rest : ℕ → List Pair
-  rest i = examinedIn (visitsOver (length x) (directory x) (drop i (directory x)))
+  rest : ℕ → List Codeword
+  rest i = codewordsIn (visitsOver (length x) (directory x) (drop i (directory x)))
 
-  split : (i : ℕ) → examined x ≡ first i ++ rest i
-  unfolding examined visits first rest
+  split : (i : ℕ) → codewords x ≡ first i ++ rest i
+  unfolding codewords visits first rest
   split i =
-      ap (λ (es : List Entry). examinedIn (visitsOver (length x) (directory x) es)) (sym (take-append-drop i (directory x)))
-      ∙ ap examinedIn (visits-append (length x) (directory x) (take i (directory x)) (drop i (directory x)))
-      ∙ examined-append (firstVisits x i) (visitsOver (length x) (directory x) (drop i (directory x)))
+      ap (λ (es : List Entry). codewordsIn (visitsOver (length x) (directory x) es)) (sym (take-append-drop i (directory x)))
+      ∙ ap codewordsIn (visits-append (length x) (directory x) (take i (directory x)) (drop i (directory x)))
+      ∙ codewords-append (firstVisits x i) (visitsOver (length x) (directory x) (drop i (directory x)))
 
   first-apart : (i : ℕ) → AllApart (length x) (first i)
   first-apart i = apart-left (first i) (rest i) (subst (AllApart (length x)) (split i) (apart x v))
@@ -114,9 +114,9 @@ module _ (x : List ℕ) (v : mendVerdict x ≡ fine) (b : Bytes x) where
   unfolding directory
   fixed-directory i = ap (λ (n : ℕ). directoryOf n (fixedTo x i)) (sym (same i .count≡)) ∙ same-directory (fixedTo x i) x (same i)
 
-  fixed-seen : (i : ℕ) → seen (count x) (fixedTo x i) ≡ directory x
-  unfolding seen
-  fixed-seen i =
+  fixed-entriesFor : (i : ℕ) → entriesFor (count x) (fixedTo x i) ≡ directory x
+  unfolding entriesFor
+  fixed-entriesFor i =
       ap (λ (t : Bool). cond t [] (directoryOf (count x) (fixedTo x i))) (le-ltb (length (fixedTo x i)) (headerLength (count x)) (omega (arith, fixed-length i, accepted x v .long)))
       ∙ fixed-directory i
 
@@ -127,42 +127,42 @@ module _ (x : List ℕ) (v : mendVerdict x ≡ fine) (b : Bytes x) where
   fixed-visit : (i : ℕ) (y : List ℕ) → y ≡ fixedTo x i → visitsAt (count x) y i ≡ next-visit i
   unfolding regionAt next-visit
   fixed-visit i y e =
-      ap (λ (z : List ℕ). visitsAt (count x) z i) e ∙ ap₂ (λ (n : ℕ) (es : List Entry). visitAt n es (nth i es)) (fixed-length i) (fixed-seen i)
+      ap (λ (z : List ℕ). visitsAt (count x) z i) e ∙ ap₂ (λ (n : ℕ) (es : List Entry). visitAt n es (nth i es)) (fixed-length i) (fixed-entriesFor i)
 
   first-next : (i : ℕ) → firstVisits x (suc i) ≡ firstVisits x i ++ next-visit i
   unfolding next-visit
   first-next i = visits-to (length x) (directory x) (directory x) i
 
-  words-next : (i : ℕ) → examinedIn (firstVisits x (suc i)) ≡ first i ++ examinedIn (next-visit i)
+  words-next : (i : ℕ) → codewordsIn (firstVisits x (suc i)) ≡ first i ++ codewordsIn (next-visit i)
   unfolding first
-  words-next i = ap examinedIn (first-next i) ∙ examined-append (firstVisits x i) (next-visit i)
+  words-next i = ap codewordsIn (first-next i) ∙ codewords-append (firstVisits x i) (next-visit i)
 
-  pub fixed-next : (i : ℕ) (y : List ℕ) → y ≡ fixedTo x i → fixAll (examinedIn (visitsAt (count x) y i)) y ≡ fixedTo x (suc i)
+  pub fixed-next : (i : ℕ) (y : List ℕ) → y ≡ fixedTo x i → fixAll (codewordsIn (visitsAt (count x) y i)) y ≡ fixedTo x (suc i)
   unfolding fixedTo first
   fixed-next i y e =
-      ap₂ (λ (vs : List Visit) (z : List ℕ). fixAll (examinedIn vs) z) (fixed-visit i y e) e
-      ∙ sym (ap (λ (ps : List Pair). fixAll ps x) (words-next i) ∙ fixAll-append (first i) (examinedIn (next-visit i)) x)
+      ap₂ (λ (vs : List Visit) (z : List ℕ). fixAll (codewordsIn vs) z) (fixed-visit i y e) e
+      ∙ sym (ap (λ (ps : List Codeword). fixAll ps x) (words-next i) ∙ fixAll-append (first i) (codewordsIn (next-visit i)) x)
 
   -- and is counted as a scan of x counts it
   pub tally-next : (i : ℕ) (y : List ℕ) (c : Totals) → y ≡ fixedTo x i → c ≡ talliedTo x i
-      → withClasses (marked c (anyOf (visitsAt (count x) y i))) (met y (examinedIn (visitsAt (count x) y i))) ≡ talliedTo x (suc i)
+      → withClasses (marked c (anyOf (visitsAt (count x) y i))) (met y (codewordsIn (visitsAt (count x) y i))) ≡ talliedTo x (suc i)
   unfolding talliedTo fixedTo first
   tally-next i y c e f =
       let vs = next-visit i in
-      ap (λ (ws : List Visit). withClasses (marked c (anyOf ws)) (met y (examinedIn ws))) (fixed-visit i y e)
-      ∙ ap₂ (λ (t : Totals) (z : List ℕ). withClasses (marked t (anyOf vs)) (met z (examinedIn vs))) f e
-      ∙ tally-append (anyOf (firstVisits x i) || anyOf vs) (met x (first i)) (met (fixAll (first i) x) (examinedIn vs))
-      ∙ sym (ap₂ tallied (ap anyOf (first-next i) ∙ any-append (firstVisits x i) vs) (ap (met x) (words-next i) ∙ met-append x (first i) (examinedIn vs)))
+      ap (λ (ws : List Visit). withClasses (marked c (anyOf ws)) (met y (codewordsIn ws))) (fixed-visit i y e)
+      ∙ ap₂ (λ (t : Totals) (z : List ℕ). withClasses (marked t (anyOf vs)) (met z (codewordsIn vs))) f e
+      ∙ tally-append (anyOf (firstVisits x i) || anyOf vs) (met x (first i)) (met (fixAll (first i) x) (codewordsIn vs))
+      ∙ sym (ap₂ tallied (ap anyOf (first-next i) ∙ any-append (firstVisits x i) vs) (ap (met x) (words-next i) ∙ met-append x (first i) (codewordsIn vs)))
 
   pub tally-all : (i : ℕ) → count x ≤ i → talliedTo x i ≡ scanned x
-  unfolding talliedTo scanned examined
+  unfolding talliedTo scanned codewords
   tally-all i h =
-      ap (λ (vs : List Visit). tallied (anyOf vs) (met x (examinedIn vs))) (all-visits x i h)
+      ap (λ (vs : List Visit). tallied (anyOf vs) (met x (codewordsIn vs))) (all-visits x i h)
       ∙ ap (tallied (anyOf (visits x))) (met-apart (length x) x b refl (apart x v))
 
 pub all-fixed : (x : List ℕ) (i : ℕ) → count x ≤ i → fixedTo x i ≡ mendWords x
-unfolding fixedTo mendWords examined
-all-fixed x i h = ap (λ (vs : List Visit). fixAll (examinedIn vs) x) (all-visits x i h)
+unfolding fixedTo mendWords codewords
+all-fixed x i h = ap (λ (vs : List Visit). fixAll (codewordsIn vs) x) (all-visits x i h)
 
 -- ---- of an image that mend accepts
 
@@ -172,7 +172,7 @@ scanned-report x = sym (scan-all x)
 
 pub scan-is : (x : List ℕ) → parseVerdict x ≡ fine → scanIn (count x) x ≡ scan x
 unfolding scanIn scan visits
-scan-is x h = ap (λ (es : List Entry). scanOf x (visitsOver (length x) es es)) (seen-is x h)
+scan-is x h = ap (λ (es : List Entry). scanOf x (visitsOver (length x) es es)) (entriesFor-is x h)
 
 module _ (x : List ℕ) (v : mendVerdict x ≡ fine) (b : Bytes x) where
   pub mended-all : mendWords (mendHeader x) ≡ mendBytes x
@@ -188,8 +188,8 @@ module _ (x : List ℕ) (v : mendVerdict x ≡ fine) (b : Bytes x) where
   unfolding scanned
   header-scanned =
       ap₂ tallied (ap anyOf (same-visits (mendHeader x) x (header-size x v b) (header-keeps x v b)))
-      (ap (classesAt (mendHeader x)) (header-examined x v b)
-      ∙ classes-ext x (mendHeader x) (examined x) (λ q c m. (header-word x v b q c m, header-check x v b q c m)))
+      (ap (classesAt (mendHeader x)) (header-codewords x v b)
+      ∙ classes-ext x (mendHeader x) (codewords x) (λ q c m. (header-word x v b q c m, header-check x v b q c m)))
 
   pub all-stored : (h w : ℕ) → h ≡ changed x (mendHeader x) → w ≡ scanned x .report .corrected → h + w ≡ changed x (mendBytes x)
   unfolding scanned report
@@ -198,10 +198,10 @@ module _ (x : List ℕ) (v : mendVerdict x ≡ fine) (b : Bytes x) where
 
 -- ---- the verdict
 
-pub mend-refused : (x : List ℕ) (n d : ℕ) → mendVerdict x ≡ refuse n d → mend x ≡ paper.refusedMend n d
+pub mend-refused : (x : List ℕ) (n d : ℕ) → mendVerdict x ≡ refuse n d → mend x ≡ model.refusedMend n d
 unfolding mend
 mend-refused x n d v = rw v
 
-pub mend-fine : (x : List ℕ) → mendVerdict x ≡ fine → mend x ≡ paper.mended (mendBytes x) (scan x) (changed x (mendBytes x)) (paper.noneUncorrectable (scan x))
+pub mend-fine : (x : List ℕ) → mendVerdict x ≡ fine → mend x ≡ model.mended (mendBytes x) (scan x) (changed x (mendBytes x)) (model.noneUncorrectable (scan x))
 unfolding mend
 mend-fine x v = rw v

@@ -4,9 +4,9 @@ use mathlib.Core.Bool.{Bool}
 use mathlib.Core.List.{List}
 use Prim.Native.Nat.{ℕ}
 use denote.Ref.{now}
-use Rattle.paper.specs.Refusals.{Verdict, refuse}
-use Rattle.paper.specs.Mend as paper
-use Rattle.paper.proofs.OneAnswer.{OneAnswerAnd, agree}
+use Rattle.model.specs.Refusals.{Verdict, refuse}
+use Rattle.model.specs.Mend as model
+use Rattle.model.proofs.OneAnswer.{OneAnswerAnd, agree}
 use Rattle.error.specs.Refused.{asVerdict}
 use Rattle.error.proofs.OneAnswer.{one-refusal}
 use Rattle.scan.specs.declared.ScanResult.{ScanResult}

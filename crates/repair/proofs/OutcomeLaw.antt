@@ -6,14 +6,14 @@ use native.Mathlib.Omega.{arith}
 use borrow.Rule.Slice.PartMut.{putMid, post-is}
 use lib.ListN.{length, take, drop, set}
 use lib.Seq.{sets, sets-eq}
-use Rattle.paper.specs.Bytes.{at, wordAt, le, readIn}
-use Rattle.paper.specs.Parity.{Class, clean, flipped, beyond, flipWord, checkOf, decode, Outcome, cleanWord, correctedWord, uncorrectableWord, outcomeAs, outcome}
-use Rattle.paper.specs.Scan.{Pair, classAt}
-use Rattle.paper.specs.Scrub.{storedWord}
-use Rattle.paper.proofs.ParityLaw.{decode-clean}
+use Rattle.model.specs.Bytes.{at, wordAt, leBytes, readIn}
+use Rattle.model.specs.Parity.{Class, clean, flipped, uncorrectable, flipWord, checkOf, decode, Outcome, cleanWord, correctedWord, uncorrectableWord, outcomeAs, outcome}
+use Rattle.model.specs.Scan.{Codeword, classAt}
+use Rattle.model.specs.Scrub.{storedWord}
+use Rattle.model.proofs.ParityLaw.{decode-clean}
 use Rattle.scalar.specs.Answers.{orZero}
 use Rattle.scalar.proofs.OrZero.{or-zero-in}
-use Rattle.paper.specs.Mend.{storedPair, fixAt}
+use Rattle.model.specs.Mend.{storedCodeword, fixAt}
 
 -- a part that comes back with other bytes, as many as it had
 pub put-part : (x ys : List ℕ) (a b : ℕ) → a ≤ b → b ≤ length x → length ys ≡ b - a → putMid a (b - a) x ys ≡ sets x a ys
@@ -35,28 +35,28 @@ told-matched w c k e f = ap (λ (r : Class). outcomeAs r w) (sym (ap (decode w) 
 told-clean : (k : Class) (w v : ℕ) → cleanWord v ≡ outcomeAs k w → k ≡ clean
 told-clean clean w v e = refl
 told-clean (flipped i) w v e = cc
-told-clean beyond w v e = cc
+told-clean uncorrectable w v e = cc
 
-told-beyond : (k : Class) (w : ℕ) → uncorrectableWord ≡ outcomeAs k w → k ≡ beyond
-told-beyond clean w e = cc
-told-beyond (flipped i) w e = cc
-told-beyond beyond w e = refl
+told-uncorrectable : (k : Class) (w : ℕ) → uncorrectableWord ≡ outcomeAs k w → k ≡ uncorrectable
+told-uncorrectable clean w e = cc
+told-uncorrectable (flipped i) w e = cc
+told-uncorrectable uncorrectable w e = refl
 
 told-flipped : (k : Class) (w v : ℕ) → correctedWord v ≡ outcomeAs k w → (i : ℕ) × (k ≡ flipped i) × (v ≡ flipWord i w)
 told-flipped clean w v e = let z : _≡_ {A = ℕ} 0 1 = cc in absurd (omega arith)
 told-flipped (flipped i) w v e = (i, refl, cc)
-told-flipped beyond w v e = let z : _≡_ {A = ℕ} 0 1 = cc in absurd (omega arith)
+told-flipped uncorrectable w v e = let z : _≡_ {A = ℕ} 0 1 = cc in absurd (omega arith)
 
 -- ---- a word and its check byte as they stand in x
 
-module _ (x : List ℕ) (p : Pair) where
+module _ (x : List ℕ) (p : Codeword) where
   class-clean : (v : ℕ) → cleanWord v ≡ outcome (wordAt x (p .word)) (at x (p .check)) → classAt x p ≡ clean
   unfolding outcome classAt
   class-clean v e = told-clean (decode (wordAt x (p .word)) (at x (p .check))) (wordAt x (p .word)) v e
 
-  class-beyond : uncorrectableWord ≡ outcome (wordAt x (p .word)) (at x (p .check)) → classAt x p ≡ beyond
+  class-uncorrectable : uncorrectableWord ≡ outcome (wordAt x (p .word)) (at x (p .check)) → classAt x p ≡ uncorrectable
   unfolding outcome classAt
-  class-beyond e = told-beyond (decode (wordAt x (p .word)) (at x (p .check))) (wordAt x (p .word)) e
+  class-uncorrectable e = told-uncorrectable (decode (wordAt x (p .word)) (at x (p .check))) (wordAt x (p .word)) e
 
   pub class-flipped : (v : ℕ) → correctedWord v ≡ outcome (wordAt x (p .word)) (at x (p .check))
       → (i : ℕ) × (classAt x p ≡ flipped i) × (v ≡ flipWord i (wordAt x (p .word)))
@@ -67,28 +67,28 @@ module _ (x : List ℕ) (p : Pair) where
   pub kept-clean : (v : ℕ) → cleanWord v ≡ outcome (wordAt x (p .word)) (at x (p .check)) → x ≡ storedWord (classAt x p) p x
   kept-clean v e = ap (λ (k : Class). storedWord k p x) (sym (class-clean v e))
 
-  pub kept-lost : uncorrectableWord ≡ outcome (wordAt x (p .word)) (at x (p .check)) → x ≡ storedWord (classAt x p) p x
-  kept-lost e = ap (λ (k : Class). storedWord k p x) (sym (class-beyond e))
+  pub kept-uncorrectable : uncorrectableWord ≡ outcome (wordAt x (p .word)) (at x (p .check)) → x ≡ storedWord (classAt x p) p x
+  kept-uncorrectable e = ap (λ (k : Class). storedWord k p x) (sym (class-uncorrectable e))
 
   pub put-back : (v : ℕ) → correctedWord v ≡ outcome (wordAt x (p .word)) (at x (p .check))
-      → sets x (8 * p .word) (le 8 v) ≡ storedWord (classAt x p) p x
+      → sets x (8 * p .word) (leBytes 8 v) ≡ storedWord (classAt x p) p x
   put-back v e =
       let f = class-flipped v e in
-      ap (λ (n : ℕ). sets x (8 * p .word) (le 8 n)) (f .2) ∙ ap (λ (k : Class). storedWord k p x) (sym (f .1))
+      ap (λ (n : ℕ). sets x (8 * p .word) (leBytes 8 n)) (f .2) ∙ ap (λ (k : Class). storedWord k p x) (sym (f .1))
 
   -- what mend leaves
   pub fix-clean : (v : ℕ) → cleanWord v ≡ outcome (wordAt x (p .word)) (at x (p .check)) → x ≡ fixAt p x
   unfolding fixAt
-  fix-clean v e = ap (λ (k : Class). storedPair k p x) (sym (class-clean v e))
+  fix-clean v e = ap (λ (k : Class). storedCodeword k p x) (sym (class-clean v e))
 
-  pub fix-lost : uncorrectableWord ≡ outcome (wordAt x (p .word)) (at x (p .check)) → x ≡ fixAt p x
+  pub fix-uncorrectable : uncorrectableWord ≡ outcome (wordAt x (p .word)) (at x (p .check)) → x ≡ fixAt p x
   unfolding fixAt
-  fix-lost e = ap (λ (k : Class). storedPair k p x) (sym (class-beyond e))
+  fix-uncorrectable e = ap (λ (k : Class). storedCodeword k p x) (sym (class-uncorrectable e))
 
   pub fix-put : (v c : ℕ) → correctedWord v ≡ outcome (wordAt x (p .word)) (at x (p .check)) → c ≡ checkOf v
-      → sets (set x (p .check) c) (8 * p .word) (le 8 v) ≡ fixAt p x
+      → sets (set x (p .check) c) (8 * p .word) (leBytes 8 v) ≡ fixAt p x
   unfolding fixAt
   fix-put v c e g =
       let f = class-flipped v e in
-      ap (λ (n : ℕ). sets (set x (p .check) n) (8 * p .word) (le 8 v)) g
-      ∙ ap (λ (n : ℕ). sets (set x (p .check) (checkOf n)) (8 * p .word) (le 8 n)) (f .2) ∙ ap (λ (k : Class). storedPair k p x) (sym (f .1))
+      ap (λ (n : ℕ). sets (set x (p .check) n) (8 * p .word) (leBytes 8 v)) g
+      ∙ ap (λ (n : ℕ). sets (set x (p .check) (checkOf n)) (8 * p .word) (leBytes 8 n)) (f .2) ∙ ap (λ (k : Class). storedCodeword k p x) (sym (f .1))

@@ -8,16 +8,16 @@ use native.Mathlib.Omega.{arith}
 use lib.ListN.{length}
 use borrow.Author.Tests.{le-ltb}
 use lib.Seq.{length-sets}
-use Rattle.paper.specs.Bytes.{at, wordAt, le}
-use Rattle.paper.specs.Parity.{Class, clean, flipped, beyond, flipWord, decode, Outcome, cleanWord, correctedWord, uncorrectableWord, outcomeAs, outcome}
-use Rattle.paper.specs.Refusals.{fine, refuse}
-use Rattle.paper.specs.Layout.{headerLength, count, directory}
-use Rattle.paper.specs.Parse.{parseVerdict}
-use Rattle.paper.specs.Views.{seen, regionAt}
-use Rattle.paper.specs.Scan.{Pair, pairsFrom, examinedIn, classAt, isCorrected, total, report}
-use Rattle.paper.specs.Scrub.{State, storedWord, scrubWord, scrubWords, scrubVisits, scrubRegion, scrubFrom, reported, scrub}
-use Rattle.paper.proofs.ParseLaw.{accepted-long}
-use Rattle.paper.proofs.ScanLaw.{anyOf, mark, visits-words}
+use Rattle.model.specs.Bytes.{at, wordAt, leBytes}
+use Rattle.model.specs.Parity.{Class, clean, flipped, uncorrectable, flipWord, decode, Outcome, cleanWord, correctedWord, uncorrectableWord, outcomeAs, outcome}
+use Rattle.model.specs.Refusals.{fine, refuse}
+use Rattle.model.specs.Layout.{headerLength, count, directory}
+use Rattle.model.specs.Parse.{parseVerdict}
+use Rattle.model.specs.Views.{entriesFor, regionAt}
+use Rattle.model.specs.Scan.{Codeword, codewordsFrom, codewordsIn, classAt, isCorrected, total, report}
+use Rattle.model.specs.Scrub.{State, storedWord, scrubWord, scrubWords, scrubVisits, scrubRegion, scrubFrom, reported, scrub}
+use Rattle.model.proofs.ParseLaw.{accepted-long}
+use Rattle.model.proofs.ScanLaw.{anyOf, mark, visits-words}
 use Rattle.scan.specs.Tally.{Totals, noTotals, counted, reportedBy}
 use Rattle.scan.proofs.TallyLaw.{counted-tally}
 use Rattle.repair.specs.Counting.{Stands, scrubIn}
@@ -25,13 +25,13 @@ use Rattle.scan.specs.Runs.{visitsAt}
 
 -- ---- one word
 
-pub stored-length : (r : Class) (p : Pair) (x : List ℕ) → length (storedWord r p x) ≡ length x
+pub stored-length : (r : Class) (p : Codeword) (x : List ℕ) → length (storedWord r p x) ≡ length x
 stored-length clean p x = refl
-stored-length (flipped i) p x = length-sets x (8 * p .word) (le 8 (flipWord i (wordAt x (p .word))))
-stored-length beyond p x = refl
+stored-length (flipped i) p x = length-sets x (8 * p .word) (leBytes 8 (flipWord i (wordAt x (p .word))))
+stored-length uncorrectable p x = refl
 
 -- the code's step is the definition's
-pub one-word : (t : Totals) (x y : List ℕ) (p : Pair) (o : Outcome) (s : State) → Stands t x s → o ≡ outcome (wordAt x (p .word)) (at x (p .check))
+pub one-word : (t : Totals) (x y : List ℕ) (p : Codeword) (o : Outcome) (s : State) → Stands t x s → o ≡ outcome (wordAt x (p .word)) (at x (p .check))
     → y ≡ storedWord (classAt x p) p x → Stands (counted t o) y (scrubWord p s)
 unfolding outcome classAt scrubWord
 one-word t x y p o s k e f =
@@ -45,23 +45,23 @@ one-word t x y p o s k e f =
 -- ---- a run of words
 
 -- the words ps take a state that the counts and the image stand for to t
-pub record Left (c : Totals) (x : List ℕ) (ps : List Pair) (t : State) : Type 0 where
+pub record Left (c : Totals) (x : List ℕ) (ps : List Codeword) (t : State) : Type 0 where
   pub state : State
   pub stands : Stands c x state
   pub ends : scrubWords ps state ≡ t
 
 pub words-next : (n word check k : ℕ) (s : State) → k < n
-    → scrubWords (pairsFrom (n - k) (word + k) (check + k)) s
-    ≡ scrubWords (pairsFrom (n - (k + 1)) (word + (k + 1)) (check + (k + 1))) (scrubWord (record { word = word + k; check = check + k }) s)
-unfolding scrubWords pairsFrom
+    → scrubWords (codewordsFrom (n - k) (word + k) (check + k)) s
+    ≡ scrubWords (codewordsFrom (n - (k + 1)) (word + (k + 1)) (check + (k + 1))) (scrubWord (record { word = word + k; check = check + k }) s)
+unfolding scrubWords codewordsFrom
 words-next n word check k s h =
     let e : n - k ≡ suc (n - (k + 1)) = omega arith in
     let a : suc (word + k) ≡ word + (k + 1) = omega arith in
     let b : suc (check + k) ≡ check + (k + 1) = omega arith in
     rw (e, a, b)
 
-pub words-done : (n word check k : ℕ) (s : State) → n ≤ k → scrubWords (pairsFrom (n - k) (word + k) (check + k)) s ≡ s
-unfolding scrubWords pairsFrom
+pub words-done : (n word check k : ℕ) (s : State) → n ≤ k → scrubWords (codewordsFrom (n - k) (word + k) (check + k)) s ≡ s
+unfolding scrubWords codewordsFrom
 words-done n word check k s h = let e : n - k ≡ 0 = omega arith in rw e
 
 -- ---- where nothing more is counted as corrected, nothing is written
@@ -69,17 +69,17 @@ words-done n word check k s h = let e : n - k ≡ 0 = omega arith in rw e
 corrections : State → ℕ
 corrections s = total isCorrected (s .met)
 
-words-grow : (ps : List Pair) (s : State) → corrections s ≤ corrections (scrubWords ps s)
+words-grow : (ps : List Codeword) (s : State) → corrections s ≤ corrections (scrubWords ps s)
 unfolding scrubWords scrubWord corrections total
 words-grow [] s = omega arith
 words-grow (p ∷ ps) s = omega (arith, words-grow ps (scrubWord p s))
 
-kept-class : (k : Class) (p : Pair) (x : List ℕ) → isCorrected k ≡ 0 → storedWord k p x ≡ x
+kept-class : (k : Class) (p : Codeword) (x : List ℕ) → isCorrected k ≡ 0 → storedWord k p x ≡ x
 kept-class clean p x e = refl
 kept-class (flipped i) p x e = absurd (omega arith)
-kept-class beyond p x e = refl
+kept-class uncorrectable p x e = refl
 
-words-same : (ps : List Pair) (s : State) → corrections (scrubWords ps s) ≡ corrections s → scrubWords ps s .image ≡ s .image
+words-same : (ps : List Codeword) (s : State) → corrections (scrubWords ps s) ≡ corrections s → scrubWords ps s .image ≡ s .image
 unfolding scrubWords scrubWord corrections total
 words-same [] s e = refl
 words-same (p ∷ ps) s e =
@@ -93,7 +93,7 @@ words-same (p ∷ ps) s e =
 module _ (n i : ℕ) where
   -- the mark of its visit, then its words
   pub region-stands : (t : Totals) (x : List ℕ) (s : State) → Stands t x s → (r : Totals) (y : List ℕ)
-      → Stands r y (scrubWords (examinedIn (visitsAt n x i)) (mark (anyOf (visitsAt n x i)) s)) → Stands r y (scrubIn n i s)
+      → Stands r y (scrubWords (codewordsIn (visitsAt n x i)) (mark (anyOf (visitsAt n x i)) s)) → Stands r y (scrubIn n i s)
   unfolding scrubIn
   region-stands t x s k r y h =
       subst (Stands r y) (sym (visits-words (visitsAt n x i) s) ∙ ap (λ (z : List ℕ). scrubVisits (visitsAt n z i) s) (k .image)) h
@@ -104,7 +104,7 @@ module _ (n i : ℕ) where
   region-same s e =
       let vs = visitsAt n (s .image) i in
       let q = visits-words vs s in
-      ap (λ (t : State). t .image) q ∙ words-same (examinedIn vs) (mark (anyOf vs) s) (sym (ap corrections q) ∙ e)
+      ap (λ (t : State). t .image) q ∙ words-same (codewordsIn vs) (mark (anyOf vs) s) (sym (ap corrections q) ∙ e)
 
   pub image-same : (t t′ : Totals) (x y : List ℕ) (s : State) → Stands t x s → Stands t′ y (scrubIn n i s) → t .report .corrected ≡ t′ .report .corrected → y ≡ x
   unfolding corrections report
@@ -114,7 +114,7 @@ module _ (n i : ℕ) where
 -- ---- the whole
 
 pub region-is : (n i : ℕ) (s : State) → parseVerdict (s .image) ≡ fine → n ≡ count (s .image) → scrubIn n i s ≡ scrubRegion i s
-unfolding scrubIn scrubRegion regionAt seen directory
+unfolding scrubIn scrubRegion regionAt entriesFor directory
 region-is n i s h e = rw (e, le-ltb (length (s .image)) (headerLength (count (s .image))) (accepted-long (s .image) h))
 
 pub from-next : (m i : ℕ) (s : State) → parseVerdict (s .image) ≡ fine → scrubFrom (suc m) i s ≡ scrubFrom m (suc i) (scrubRegion i s)

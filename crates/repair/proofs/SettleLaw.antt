@@ -11,13 +11,13 @@ use borrow.Author.Tests.{eq-eqb}
 use lib.Dec.{eqb}
 use lib.ListN.{length, take, drop, set, length-set, take-append-drop}
 use lib.Seq.{getD-set-same, getD-set-other, length-take-le}
-use Rattle.paper.specs.Bytes.{at}
-use Rattle.paper.specs.Layout.{maj3, count, headerLength, header}
-use Rattle.paper.specs.Mend.{changed}
-use Rattle.paper.proofs.LayoutLaw.{length-header}
-use Rattle.laws.specs.Steps.{mendHeader, copyVote, copyVotes}
-use Rattle.laws.proofs.StoredLaw.{changed-nil, changed-short, changed-cons, changed-none, changed-append, changed-over}
-use Rattle.laws.proofs.HeaderHalf.{copyVote-length, copyVotes-length, at-other, votes-others, votes-before, in-place}
+use Rattle.model.specs.Bytes.{at}
+use Rattle.model.specs.Layout.{maj3, count, headerLength, header}
+use Rattle.model.specs.Mend.{changed}
+use Rattle.model.proofs.LayoutLaw.{length-header}
+use Rattle.lemmas.specs.Steps.{mendHeader, copyVote, copyVotes}
+use Rattle.lemmas.proofs.StoredLaw.{changed-nil, changed-short, changed-cons, changed-none, changed-append, changed-over}
+use Rattle.lemmas.proofs.HeaderHalf.{copyVote-length, copyVotes-length, at-other, votes-others, votes-before, in-place}
 
 -- ---- one byte
 

@@ -1,7 +1,7 @@
 -- The paper's reading of mend's answer, and of what it leaves. (FORMAT 10)
 use mathlib.Core.List.{List}
 use Prim.Native.Nat.{ℕ}
-use Rattle.paper.specs.Mend as paper
+use Rattle.model.specs.Mend as model
 use Rattle.error.specs.Refused.{numberOf, detailOf}
 use Rattle.scan.specs.Answers.{asScan}
 use Rattle.repair.specs.declared.mending.Mending.{Mending}
@@ -9,14 +9,14 @@ use Rattle.repair.specs.declared.mending.MendResult.{MendResult}
 use Rattle.repair.specs.declared.mending.MendResult.the-variants.{Mended, Refused}
 
 -- with the image y that it leaves
-abbrev pub asMending : Mending → List ℕ → paper.MendAnswer
-asMending m y = paper.mended y (asScan (m .report)) (m .stored) (m .whole)
+abbrev pub asMending : Mending → List ℕ → model.MendAnswer
+asMending m y = model.mended y (asScan (m .report)) (m .stored) (m .whole)
 
-abbrev pub asMended : MendResult → List ℕ → paper.MendAnswer
+abbrev pub asMended : MendResult → List ℕ → model.MendAnswer
 asMended (Mended m) y = asMending m y
-asMended (Refused r) y = paper.refusedMend (numberOf r) (detailOf r)
+asMended (Refused r) y = model.refusedMend (numberOf r) (detailOf r)
 
 -- what it leaves of x: a refusal leaves every byte
-abbrev pub leftBy : paper.MendAnswer → List ℕ → List ℕ
-leftBy (paper.mended y r n w) x = y
-leftBy (paper.refusedMend n d) x = x
+abbrev pub leftBy : model.MendAnswer → List ℕ → List ℕ
+leftBy (model.mended y r n w) x = y
+leftBy (model.refusedMend n d) x = x

@@ -2,11 +2,11 @@
 use mathlib.Core.Path.{_≡_}
 use mathlib.Core.List.{List, [], _∷_}
 use Prim.Native.Nat.{ℕ}
-use Rattle.paper.specs.Parity.{Class}
-use Rattle.paper.specs.Scan.{visits, Pair, classAt, classesAt, examined}
-use Rattle.paper.specs.Scrub.{State, scrubVisits}
-use Rattle.paper.specs.Mend.{fixAt}
-use Rattle.paper.proofs.ScanLaw.{anyOf}
+use Rattle.model.specs.Parity.{Class}
+use Rattle.model.specs.Scan.{visits, Codeword, classAt, classesAt, codewords}
+use Rattle.model.specs.Scrub.{State, scrubVisits}
+use Rattle.model.specs.Mend.{fixAt}
+use Rattle.model.proofs.ScanLaw.{anyOf}
 use Rattle.scan.specs.Tally.{Totals, tallied}
 use Rattle.scan.specs.Runs.{visitsAt}
 
@@ -24,10 +24,10 @@ scrubIn n i s = scrubVisits (visitsAt n (s .image) i) s
 -- ---- mend
 
 -- the classes in which it meets the words, each after those before it were fixed
-unfoldable pub met : List ℕ → List Pair → List Class
+unfoldable pub met : List ℕ → List Codeword → List Class
 met x [] = []
 met x (p ∷ ps) = classAt x p ∷ met (fixAt p x) ps
 
 -- what a scan of x counts
 unfoldable pub scanned : List ℕ → Totals
-scanned x = tallied (anyOf (visits x)) (classesAt x (examined x))
+scanned x = tallied (anyOf (visits x)) (classesAt x (codewords x))

@@ -4,13 +4,13 @@ ghost use mathlib.Core.Bool.{_||_, cond};
 ghost use Prim.Native.Nat.{ℕ, _+_, _*_, _^_, _<_, _≤_};
 ghost use lib.Dec.{eqb};
 ghost use lib.ListN.{length, set};
-ghost use Rattle.paper.specs.Bytes.{at};
-ghost use Rattle.paper.specs.Refusals.{fine};
-ghost use Rattle.paper.specs.Layout.{count, headerLength, scrubWanted};
-ghost use Rattle.paper.specs.Scan.{pairsFrom, examinedIn};
-ghost use Rattle.paper.specs.Mend as paper;
-ghost use Rattle.paper.proofs.ScanLaw.{anyOf};
-ghost use Rattle.laws.specs.Steps.{copyVote, copyVotes, mendHeader, mendWords};
+ghost use Rattle.model.specs.Bytes.{at};
+ghost use Rattle.model.specs.Refusals.{fine};
+ghost use Rattle.model.specs.Layout.{count, headerLength, scrubWanted};
+ghost use Rattle.model.specs.Scan.{codewordsFrom, codewordsIn};
+ghost use Rattle.model.specs.Mend as model;
+ghost use Rattle.model.proofs.ScanLaw.{anyOf};
+ghost use Rattle.lemmas.specs.Steps.{copyVote, copyVotes, mendHeader, mendWords};
 ghost use Rattle.scan.specs.Answers.{asScan};
 ghost use Rattle.ecc.specs.CheckTable.{IsCheckTable};
 ghost use Rattle.scan.specs.Runs.{visitsAt};
@@ -61,7 +61,7 @@ fn put(bytes: &mut [u8], p: usize, v: u8) -> usize
 fn settle_byte(bytes: &mut [u8], base: usize, k: usize, j: usize) -> usize
     requires { ⌜ (j < k) × (base + 3 * k ≤ length (now bytes)) ⌝ }
     ensures leaves { λ r. ⌜ now (bytes .exit) ≡ copyVote base k j (now (bytes .entry)) ⌝ }
-    ensures counts { λ r. ⌜ r ≡ paper.changed (now (bytes .entry)) (now (bytes .exit)) ⌝ }
+    ensures counts { λ r. ⌜ r ≡ model.changed (now (bytes .entry)) (now (bytes .exit)) ⌝ }
 {
     let v = maj3(
         bytes[base + j],
@@ -78,7 +78,7 @@ fn settle_byte(bytes: &mut [u8], base: usize, k: usize, j: usize) -> usize
 fn settle_copies(bytes: &mut [u8], base: usize, k: usize) -> usize
     requires { ⌜ base + 3 * k ≤ length (now bytes) ⌝ }
     ensures leaves { λ r. ⌜ now (bytes .exit) ≡ copyVotes base k k 0 (now (bytes .entry)) ⌝ }
-    ensures counts { λ r. ⌜ r ≡ paper.changed (now (bytes .entry)) (now (bytes .exit)) ⌝ }
+    ensures counts { λ r. ⌜ r ≡ model.changed (now (bytes .entry)) (now (bytes .exit)) ⌝ }
 {
     let mut stored: usize = 0;
     let mut j: usize = 0;
@@ -93,7 +93,7 @@ fn settle_copies(bytes: &mut [u8], base: usize, k: usize) -> usize
 fn settle_header(bytes: &mut [u8], region_count: u16) -> usize
     requires { ⌜ («region_count» ≡ count (now bytes)) × (headerLength «region_count» ≤ length (now bytes)) ⌝ }
     ensures leaves { λ r. ⌜ now (bytes .exit) ≡ mendHeader (now (bytes .entry)) ⌝ }
-    ensures counts { λ r. ⌜ r ≡ paper.changed (now (bytes .entry)) (now (bytes .exit)) ⌝ }
+    ensures counts { λ r. ⌜ r ≡ model.changed (now (bytes .entry)) (now (bytes .exit)) ⌝ }
 {
     let prologue = settle_copies(bytes, 0, 16);
     let directory = settle_copies(bytes, 48, 16 * (region_count as usize));
@@ -104,7 +104,7 @@ fn settle_header(bytes: &mut [u8], region_count: u16) -> usize
 fn mend_header(bytes: &mut [u8], header: Header) -> usize
     requires { ⌜ (header .«region_count» ≡ count (now bytes)) × (headerLength (header .«region_count») ≤ length (now bytes)) × (header .«prologue_disagreed» || header .«directory_disagreed» ≡ scrubWanted (now bytes)) ⌝ }
     ensures leaves { λ r. ⌜ now (bytes .exit) ≡ mendHeader (now (bytes .entry)) ⌝ }
-    ensures counts { λ r. ⌜ r ≡ paper.changed (now (bytes .entry)) (now (bytes .exit)) ⌝ }
+    ensures counts { λ r. ⌜ r ≡ model.changed (now (bytes .entry)) (now (bytes .exit)) ⌝ }
 {
     if !header.needs_scrub() {
         return 0;
@@ -122,8 +122,8 @@ fn fix_words(
     tally: Tally,
 ) -> Tally
     requires { ⌜ (8 * (word + n) ≤ length (now bytes)) × (check + n ≤ length (now bytes)) × Room n (asTotals tally .report) × IsCheckTable (now table) ⌝ }
-    ensures leaves { λ r. ⌜ now (bytes .exit) ≡ paper.fixAll (pairsFrom n word check) (now (bytes .entry)) ⌝ }
-    ensures tells { λ r. ⌜ asTotals r ≡ withClasses (asTotals tally) (met (now (bytes .entry)) (pairsFrom n word check)) ⌝ }
+    ensures leaves { λ r. ⌜ now (bytes .exit) ≡ model.fixAll (codewordsFrom n word check) (now (bytes .entry)) ⌝ }
+    ensures tells { λ r. ⌜ asTotals r ≡ withClasses (asTotals tally) (met (now (bytes .entry)) (codewordsFrom n word check)) ⌝ }
     ensures grows { λ r. ⌜ (r .report .words ≤ tally .report .words + n) × Room 0 (asTotals r .report) ⌝ }
 {
     let mut total = tally;
@@ -139,8 +139,8 @@ fn fix_words(
 // Entry i of the image as it stands, if there is one.
 fn mend_region(table: &CheckTable, bytes: &mut [u8], header: Header, i: u16, tally: Tally) -> Tally
     requires { ⌜ Room (2 ^ 32) (asTotals tally .report) × IsCheckTable (now table) ⌝ }
-    ensures leaves { λ r. ⌜ now (bytes .exit) ≡ paper.fixAll (examinedIn (visitsAt (header .«region_count») (now (bytes .entry)) i)) (now (bytes .entry)) ⌝ }
-    ensures tells { λ r. ⌜ asTotals r ≡ withClasses (marked (asTotals tally) (anyOf (visitsAt (header .«region_count») (now (bytes .entry)) i))) (met (now (bytes .entry)) (examinedIn (visitsAt (header .«region_count») (now (bytes .entry)) i))) ⌝ }
+    ensures leaves { λ r. ⌜ now (bytes .exit) ≡ model.fixAll (codewordsIn (visitsAt (header .«region_count») (now (bytes .entry)) i)) (now (bytes .entry)) ⌝ }
+    ensures tells { λ r. ⌜ asTotals r ≡ withClasses (marked (asTotals tally) (anyOf (visitsAt (header .«region_count») (now (bytes .entry)) i))) (met (now (bytes .entry)) (codewordsIn (visitsAt (header .«region_count») (now (bytes .entry)) i))) ⌝ }
     ensures grows { λ r. ⌜ (r .report .words ≤ tally .report .words + 2 ^ 32) × Room 0 (asTotals r .report) ⌝ }
 {
     let run = protected_run_at(bytes, header, i);
@@ -150,7 +150,7 @@ fn mend_region(table: &CheckTable, bytes: &mut [u8], header: Header, i: u16, tal
 
 // Every examined word, and what a scan would have counted: regions are laid apart, so no word is met that another's repair moved.
 fn mend_words(bytes: &mut [u8], header: Header) -> Tally
-    requires { ⌜ (header .«region_count» ≡ count (now bytes)) × (paper.mendVerdict (now bytes) ≡ fine) ⌝ }
+    requires { ⌜ (header .«region_count» ≡ count (now bytes)) × (model.mendVerdict (now bytes) ≡ fine) ⌝ }
     ensures leaves { λ r. ⌜ now (bytes .exit) ≡ mendWords (now (bytes .entry)) ⌝ }
     ensures tells { λ r. ⌜ asTotals r ≡ scanned (now (bytes .entry)) ⌝ }
 {
@@ -168,7 +168,7 @@ fn mend_words(bytes: &mut [u8], header: Header) -> Tally
 
 // Nothing is whole without a report.
 fn is_whole(report: ScanResult) -> bool
-    ensures { λ r. ⌜ r ≡ paper.noneUncorrectable (asScan report) ⌝ }
+    ensures { λ r. ⌜ r ≡ model.noneUncorrectable (asScan report) ⌝ }
 {
     match report {
         ScanResult::Report(counts) => counts.uncorrectable == 0,
@@ -178,9 +178,9 @@ fn is_whole(report: ScanResult) -> bool
 
 // Of an image whose regions are laid apart. The words are passed once: the header's votes move none of them.
 fn mend_apart(bytes: &mut [u8], header: Header) -> Mending
-    requires { ⌜ (header .«region_count» ≡ count (now bytes)) × (paper.mendVerdict (now bytes) ≡ fine) × (header .«prologue_disagreed» || header .«directory_disagreed» ≡ scrubWanted (now bytes)) ⌝ }
-    ensures is { λ r. ⌜ asMending r (now (bytes .exit)) ≡ paper.mend (now (bytes .entry)) ⌝ }
-    ensures leaves { λ r. ⌜ now (bytes .exit) ≡ paper.mendBytes (now (bytes .entry)) ⌝ }
+    requires { ⌜ (header .«region_count» ≡ count (now bytes)) × (model.mendVerdict (now bytes) ≡ fine) × (header .«prologue_disagreed» || header .«directory_disagreed» ≡ scrubWanted (now bytes)) ⌝ }
+    ensures is { λ r. ⌜ asMending r (now (bytes .exit)) ≡ model.mend (now (bytes .entry)) ⌝ }
+    ensures leaves { λ r. ⌜ now (bytes .exit) ≡ model.mendBytes (now (bytes .entry)) ⌝ }
 {
     let in_header = mend_header(bytes, header);
     let tally = mend_words(bytes, header);
@@ -195,8 +195,8 @@ fn mend_apart(bytes: &mut [u8], header: Header) -> Mending
 // Repairs what the header's votes and the parity decide, and refuses, with no byte written, where regions overlap.
 // The image has to be parsed afresh before it is loaded.
 pub fn mend(bytes: &mut [u8]) -> MendResult
-    ensures is { λ r. ⌜ asMended r (now (bytes .exit)) ≡ paper.mend (now (bytes .entry)) ⌝ }
-    ensures leaves { λ r. ⌜ now (bytes .exit) ≡ leftBy (paper.mend (now (bytes .entry))) (now (bytes .entry)) ⌝ }
+    ensures is { λ r. ⌜ asMended r (now (bytes .exit)) ≡ model.mend (now (bytes .entry)) ⌝ }
+    ensures leaves { λ r. ⌜ now (bytes .exit) ≡ leftBy (model.mend (now (bytes .entry))) (now (bytes .entry)) ⌝ }
 {
     match check_placement(bytes) {
         Placement::Refused(refusal) => MendResult::Refused(refusal),

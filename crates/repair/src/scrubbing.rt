@@ -2,9 +2,9 @@
 ghost use mathlib.Core.Path.{_≡_};
 ghost use Prim.Native.Nat.{ℕ, _+_, _*_, _^_, _<_, _≤_};
 ghost use lib.ListN.{length};
-ghost use Rattle.paper.specs.Scan.{pairsFrom};
+ghost use Rattle.model.specs.Scan.{codewordsFrom};
 ghost use Rattle.scan.specs.Answers.{asScan};
-ghost use Rattle.paper.specs.Scrub as paper;
+ghost use Rattle.model.specs.Scrub as model;
 ghost use Rattle.ecc.specs.CheckTable.{IsCheckTable};
 ghost use Rattle.scan.specs.Tally.{asTotals, Room};
 ghost use Rattle.repair.specs.Counting.{Stands, scrubIn};
@@ -33,7 +33,7 @@ fn scrub_words(
     tally: Tally,
 ) -> Tally
     requires { ⌜ (8 * (word + n) ≤ length (now bytes)) × (check + n ≤ length (now bytes)) × Room n (asTotals tally .report) × IsCheckTable (now table) ⌝ }
-    ensures is { λ r. ⌜ ((s : paper.State) → Stands (asTotals tally) (now (bytes .entry)) s → Stands (asTotals r) (now (bytes .exit)) (paper.scrubWords (pairsFrom n word check) s)) ⌝ }
+    ensures is { λ r. ⌜ ((s : model.State) → Stands (asTotals tally) (now (bytes .entry)) s → Stands (asTotals r) (now (bytes .exit)) (model.scrubWords (codewordsFrom n word check) s)) ⌝ }
     ensures grows { λ r. ⌜ (r .report .words ≤ tally .report .words + n) × Room 0 (asTotals r .report) ⌝ }
 {
     let mut total = tally;
@@ -50,7 +50,7 @@ fn scrub_words(
 fn scrub_region(table: &CheckTable, bytes: &mut [u8], header: Header, i: u16, tally: Tally) -> Tally
     requires { ⌜ Room (2 ^ 32) (asTotals tally .report) × IsCheckTable (now table) ⌝ }
     ensures grows { λ r. ⌜ (r .report .words ≤ tally .report .words + 2 ^ 32) × Room 0 (asTotals r .report) ⌝ }
-    ensures is { λ r. ⌜ ((s : paper.State) → Stands (asTotals tally) (now (bytes .entry)) s → Stands (asTotals r) (now (bytes .exit)) (scrubIn (header .«region_count») i s)) ⌝ }
+    ensures is { λ r. ⌜ ((s : model.State) → Stands (asTotals tally) (now (bytes .entry)) s → Stands (asTotals r) (now (bytes .exit)) (scrubIn (header .«region_count») i s)) ⌝ }
 {
     let run = protected_run_at(bytes, header, i);
     let visited = visit(tally, run.visited);
@@ -60,8 +60,8 @@ fn scrub_region(table: &CheckTable, bytes: &mut [u8], header: Header, i: u16, ta
 // Repairs the corrected words of every protected region and hands back counts: what is left has to be checked afresh.
 // The image is parsed again before a region only where something was written since.
 pub fn scrub(bytes: &mut [u8]) -> ScanResult
-    ensures is { λ r. ⌜ asScan r ≡ paper.scrub (now (bytes .entry)) .report ⌝ }
-    ensures leaves { λ r. ⌜ now (bytes .exit) ≡ paper.scrub (now (bytes .entry)) .image ⌝ }
+    ensures is { λ r. ⌜ asScan r ≡ model.scrub (now (bytes .entry)) .report ⌝ }
+    ensures leaves { λ r. ⌜ now (bytes .exit) ≡ model.scrub (now (bytes .entry)) .image ⌝ }
 {
     let ParseResult::Parsed(first) = parse(bytes) else {
         return ScanResult::Nothing;

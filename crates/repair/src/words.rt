@@ -2,11 +2,11 @@
 ghost use mathlib.Core.Path.{_≡_};
 ghost use Prim.Native.Nat.{ℕ, _+_, _*_, _<_, _≤_};
 ghost use lib.ListN.{length};
-ghost use Rattle.paper.specs.Bytes.{at, wordAt, le};
-ghost use Rattle.paper.specs.Parity.{outcome};
-ghost use Rattle.paper.specs.Scan.{classAt};
-ghost use Rattle.paper.specs.Scrub.{storedWord};
-ghost use Rattle.paper.specs.Mend.{fixAt};
+ghost use Rattle.model.specs.Bytes.{at, wordAt, leBytes};
+ghost use Rattle.model.specs.Parity.{outcome};
+ghost use Rattle.model.specs.Scan.{classAt};
+ghost use Rattle.model.specs.Scrub.{storedWord};
+ghost use Rattle.model.specs.Mend.{fixAt};
 ghost use Rattle.ecc.specs.Answers.{asOutcome};
 ghost use Rattle.ecc.specs.CheckTable.{IsCheckTable};
 use ecc::CheckTable;
@@ -19,7 +19,7 @@ use scalar::u64_or_zero;
 // The word's eight bytes, lent to be written.
 pub(crate) fn store_word(part: &mut [u8], value: u64)
     requires { ⌜ length (now part) ≡ 8 ⌝ }
-    ensures { λ r. ⌜ now (part .exit) ≡ le 8 value ⌝ }
+    ensures { λ r. ⌜ now (part .exit) ≡ leBytes 8 value ⌝ }
 {
     let bytes = u64_bytes(value);
     let mut k: usize = 0;

@@ -9,14 +9,14 @@ fn main() {
         io::write_all(libc::STDERR_FILENO, b"usage: report <IMAGE\n");
         return;
     }
-    let input = streams::read_input(&mut buffer);
+    let input = stdin::read_input(&mut buffer);
     if input.failed {
         os::fail(b"report: standard input");
         return;
     }
     let n = input.length;
     let mut out = [0u8; 128];
-    let k = lines::report(&buffer[..n], &mut out);
+    let k = text::report(&buffer[..n], &mut out);
     if !io::write_all(libc::STDOUT_FILENO, &out[..k]) {
         os::fail(b"report: standard output");
     }

@@ -7,8 +7,8 @@ use Prim.Native.Nat.{ℕ, _+_, _≤_}
 use borrow.Author.Tests.{leb-true}
 use lib.Dec.{leb}
 use lib.ListN.{length}
-use Rattle.paper.specs.Bytes.{read, readIn}
-use Rattle.paper.proofs.BytesLaw.{read-in, read-past}
+use Rattle.model.specs.Bytes.{read, readIn}
+use Rattle.model.proofs.BytesLaw.{read-in, read-past}
 
 turned : (t : Bool) → not t ≡ true → t ≡ false
 turned true e = cc

@@ -1,8 +1,8 @@
--- No two answers fit one promise. (`asPaper..` tells every two answers of a reader apart.) Assumes nothing.
+-- No two answers fit one promise. (`asModel..` tells every two answers of a reader apart.) Assumes nothing.
 use mathlib.Core.Path.{_≡_, refl}
 use mathlib.Core.Option.{Option, none, some}
 use Prim.Native.Nat.{ℕ}
-use Rattle.paper.proofs.OneAnswer.{OneAnswer, agree}
+use Rattle.model.proofs.OneAnswer.{OneAnswer, agree}
 use Rattle.scalar.specs.declared.U8At.{U8At}
 use Rattle.scalar.specs.declared.U8At.the-variants as u8
 use Rattle.scalar.specs.declared.U16At.{U16At}
@@ -11,7 +11,7 @@ use Rattle.scalar.specs.declared.U32At.{U32At}
 use Rattle.scalar.specs.declared.U32At.the-variants as u32
 use Rattle.scalar.specs.declared.U64At.{U64At}
 use Rattle.scalar.specs.declared.U64At.the-variants as u64
-use Rattle.scalar.specs.Answers.{asPaper8, asPaper16, asPaper32, asPaper64}
+use Rattle.scalar.specs.Answers.{asModel8, asModel16, asModel32, asModel64}
 use Rattle.scalar.proofs.u8_at.Reads as u8-at
 use Rattle.scalar.proofs.u16_at.Reads as u16-at
 use Rattle.scalar.proofs.u32_at.Reads as u32-at
@@ -23,25 +23,25 @@ use Rattle.scalar.proofs.u32_bytes.Reads as u32-bytes
 use Rattle.scalar.proofs.u64_bytes.Reads as u64-bytes
 use Rattle.scalar.proofs.maj3.Reads as maj3
 
-pub one-u8 : (a b : U8At) → asPaper8 a ≡ asPaper8 b → a ≡ b
+pub one-u8 : (a b : U8At) → asModel8 a ≡ asModel8 b → a ≡ b
 one-u8 (u8.Value m) (u8.Value n) e = cc
 one-u8 (u8.Value m) u8.Nothing e = cc
 one-u8 u8.Nothing (u8.Value n) e = cc
 one-u8 u8.Nothing u8.Nothing e = refl
 
-pub one-u16 : (a b : U16At) → asPaper16 a ≡ asPaper16 b → a ≡ b
+pub one-u16 : (a b : U16At) → asModel16 a ≡ asModel16 b → a ≡ b
 one-u16 (u16.Value m) (u16.Value n) e = cc
 one-u16 (u16.Value m) u16.Nothing e = cc
 one-u16 u16.Nothing (u16.Value n) e = cc
 one-u16 u16.Nothing u16.Nothing e = refl
 
-pub one-u32 : (a b : U32At) → asPaper32 a ≡ asPaper32 b → a ≡ b
+pub one-u32 : (a b : U32At) → asModel32 a ≡ asModel32 b → a ≡ b
 one-u32 (u32.Value m) (u32.Value n) e = cc
 one-u32 (u32.Value m) u32.Nothing e = cc
 one-u32 u32.Nothing (u32.Value n) e = cc
 one-u32 u32.Nothing u32.Nothing e = refl
 
-pub one-u64 : (a b : U64At) → asPaper64 a ≡ asPaper64 b → a ≡ b
+pub one-u64 : (a b : U64At) → asModel64 a ≡ asModel64 b → a ≡ b
 one-u64 (u64.Value m) (u64.Value n) e = cc
 one-u64 (u64.Value m) u64.Nothing e = cc
 one-u64 u64.Nothing (u64.Value n) e = cc

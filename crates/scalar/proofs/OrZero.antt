@@ -4,8 +4,8 @@ use mathlib.Core.List.{List}
 use Prim.Native.Nat.{ℕ, _+_, _≤_}
 use borrow.Author.Tests.{le-leb}
 use lib.ListN.{length}
-use Rattle.paper.specs.Bytes.{read, readIn}
-use Rattle.paper.proofs.BytesLaw.{read-in}
+use Rattle.model.specs.Bytes.{read, readIn}
+use Rattle.model.proofs.BytesLaw.{read-in}
 use Rattle.scalar.specs.Answers.{orZero}
 
 pub or-zero-in : (k : ℕ) (x : List ℕ) (p : ℕ) → p + k ≤ length x → orZero (readIn k x p) ≡ read k x p

@@ -10,21 +10,21 @@ use Rattle.scalar.specs.declared.U32At.the-variants as u32-at
 use Rattle.scalar.specs.declared.U64At.{U64At}
 use Rattle.scalar.specs.declared.U64At.the-variants as u64-at
 
-abbrev pub asPaper8 : U8At → Option ℕ
-asPaper8 (u8-at.Value n) = some n
-asPaper8 u8-at.Nothing = none
+abbrev pub asModel8 : U8At → Option ℕ
+asModel8 (u8-at.Value n) = some n
+asModel8 u8-at.Nothing = none
 
-abbrev pub asPaper16 : U16At → Option ℕ
-asPaper16 (u16-at.Value n) = some n
-asPaper16 u16-at.Nothing = none
+abbrev pub asModel16 : U16At → Option ℕ
+asModel16 (u16-at.Value n) = some n
+asModel16 u16-at.Nothing = none
 
-abbrev pub asPaper32 : U32At → Option ℕ
-asPaper32 (u32-at.Value n) = some n
-asPaper32 u32-at.Nothing = none
+abbrev pub asModel32 : U32At → Option ℕ
+asModel32 (u32-at.Value n) = some n
+asModel32 u32-at.Nothing = none
 
-abbrev pub asPaper64 : U64At → Option ℕ
-asPaper64 (u64-at.Value n) = some n
-asPaper64 u64-at.Nothing = none
+abbrev pub asModel64 : U64At → Option ℕ
+asModel64 (u64-at.Value n) = some n
+asModel64 u64-at.Nothing = none
 
 -- the number, 0 for nothing
 abbrev pub orZero : Option ℕ → ℕ

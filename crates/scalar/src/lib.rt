@@ -5,9 +5,9 @@ ghost use Prim.Native.Nat.{_+_, _*_, _≤_};
 ghost use lib.Dec.{leb};
 ghost use lib.ListN.{length};
 ghost use Rattle.bits.specs.Vote.{Majority};
-ghost use Rattle.paper.specs.Bytes.{read, readIn, le};
-ghost use Rattle.paper.specs.Layout as paper;
-ghost use Rattle.scalar.specs.Answers.{asPaper8, asPaper16, asPaper32, asPaper64, orZero};
+ghost use Rattle.model.specs.Bytes.{read, readIn, leBytes};
+ghost use Rattle.model.specs.Layout as model;
+ghost use Rattle.scalar.specs.Answers.{asModel8, asModel16, asModel32, asModel64, orZero};
 
 pub enum U8At {
     Value(u8),
@@ -40,7 +40,7 @@ fn has(b: &[u8], at: usize, n: usize) -> bool
 }
 
 pub fn u8_at(b: &[u8], at: usize) -> U8At
-    ensures { λ r. ⌜ asPaper8 r ≡ readIn 1 (now (b .entry)) at ⌝ }
+    ensures { λ r. ⌜ asModel8 r ≡ readIn 1 (now (b .entry)) at ⌝ }
 {
     if !has(b, at, 1) {
         return U8At::Nothing;
@@ -49,7 +49,7 @@ pub fn u8_at(b: &[u8], at: usize) -> U8At
 }
 
 pub fn u16_at(b: &[u8], at: usize) -> U16At
-    ensures { λ r. ⌜ asPaper16 r ≡ readIn 2 (now (b .entry)) at ⌝ }
+    ensures { λ r. ⌜ asModel16 r ≡ readIn 2 (now (b .entry)) at ⌝ }
 {
     if !has(b, at, 2) {
         return U16At::Nothing;
@@ -58,7 +58,7 @@ pub fn u16_at(b: &[u8], at: usize) -> U16At
 }
 
 pub fn u32_at(b: &[u8], at: usize) -> U32At
-    ensures { λ r. ⌜ asPaper32 r ≡ readIn 4 (now (b .entry)) at ⌝ }
+    ensures { λ r. ⌜ asModel32 r ≡ readIn 4 (now (b .entry)) at ⌝ }
 {
     if !has(b, at, 4) {
         return U32At::Nothing;
@@ -67,7 +67,7 @@ pub fn u32_at(b: &[u8], at: usize) -> U32At
 }
 
 pub fn u64_at(b: &[u8], at: usize) -> U64At
-    ensures { λ r. ⌜ asPaper64 r ≡ readIn 8 (now (b .entry)) at ⌝ }
+    ensures { λ r. ⌜ asModel64 r ≡ readIn 8 (now (b .entry)) at ⌝ }
 {
     if !has(b, at, 8) {
         return U64At::Nothing;
@@ -145,19 +145,19 @@ fn join_8(b0: u8, b1: u8, b2: u8, b3: u8, b4: u8, b5: u8, b6: u8, b7: u8) -> u64
 }
 
 pub fn u8_bytes(v: u8) -> [u8; 1]
-    ensures { λ r. ⌜ r ≡ le 1 v ⌝ }
+    ensures { λ r. ⌜ r ≡ leBytes 1 v ⌝ }
 {
     [v]
 }
 
 pub fn u16_bytes(v: u16) -> [u8; 2]
-    ensures { λ r. ⌜ r ≡ le 2 v ⌝ }
+    ensures { λ r. ⌜ r ≡ leBytes 2 v ⌝ }
 {
     [(v % 256) as u8, ((v / 256) % 256) as u8]
 }
 
 pub fn u32_bytes(v: u32) -> [u8; 4]
-    ensures { λ r. ⌜ r ≡ le 4 v ⌝ }
+    ensures { λ r. ⌜ r ≡ leBytes 4 v ⌝ }
 {
     [
         (v % 256) as u8,
@@ -168,7 +168,7 @@ pub fn u32_bytes(v: u32) -> [u8; 4]
 }
 
 pub fn u64_bytes(v: u64) -> [u8; 8]
-    ensures { λ r. ⌜ r ≡ le 8 v ⌝ }
+    ensures { λ r. ⌜ r ≡ leBytes 8 v ⌝ }
 {
     [
         (v % 256) as u8,
@@ -184,7 +184,7 @@ pub fn u64_bytes(v: u64) -> [u8; 8]
 
 // Each bit is what two or more of the three bytes have there.
 pub fn maj3(a: u8, b: u8, c: u8) -> u8
-    ensures { λ r. ⌜ r ≡ paper.maj3 a b c ⌝ }
+    ensures { λ r. ⌜ r ≡ model.maj3 a b c ⌝ }
     ensures { λ r. ⌜ Majority a b c r ⌝ }
 {
     (a & b) | (a & c) | (b & c)

@@ -8,13 +8,13 @@ use native.Mathlib.Nat.{min-le-left, min-le-right}
 use native.Mathlib.Omega.{arith}
 use lib.Dec.{leb}
 use lib.ListN.{length}
-use Rattle.paper.specs.Bytes.{given}
-use Rattle.paper.specs.Layout.{Entry, end}
-use Rattle.paper.specs.Views.{bytesSpan, firstThat, planeFor, seen, eccFor, regionAt}
-use Rattle.paper.specs.Scan.{report, planeOf, planeWithin, isProtected, Visit, visitWith, visitOf, pairsFrom, wordsOf, examinedIn, classesAt}
-use Rattle.paper.specs.Scrub.{visitAt}
-use Rattle.paper.proofs.PlaneLaw as plane-law
-use Rattle.paper.proofs.ScanLaw.{length-classes, anyOf, examined-one, visit-plain, visit-protected}
+use Rattle.model.specs.Bytes.{given}
+use Rattle.model.specs.Layout.{Entry, end}
+use Rattle.model.specs.Views.{bytesSpan, firstThat, planeFor, entriesFor, eccFor, regionAt}
+use Rattle.model.specs.Scan.{report, planeOf, planeWithin, isProtected, Visit, visitWith, visitOf, codewordsFrom, wordsOf, codewordsIn, classesAt}
+use Rattle.model.specs.Scrub.{visitAt}
+use Rattle.model.proofs.PlaneLaw as plane-law
+use Rattle.model.proofs.ScanLaw.{length-classes, anyOf, codewords-one, visit-plain, visit-protected}
 use Rattle.error.specs.declared.Refusal.{Refusal}
 use Rattle.layout.specs.declared.Region.{Region}
 use Rattle.layout.specs.Regions.{asEntry, regionOf}
@@ -31,29 +31,29 @@ use Rattle.scan.specs.declared.runs.ProtectedRun.{ProtectedRun}
 use Rattle.scan.specs.Runs.{visitsAt, noRun, runOf, pairsOf, IsRun}
 
 pub empty-run : (x : List ℕ) (vs : List Visit) (q : ProtectedRun) → q ≡ noRun → vs ≡ [] → IsRun x vs q
-unfolding pairsFrom examinedIn
+unfolding codewordsFrom codewordsIn
 empty-run x vs q e f =
-    subst (IsRun x vs) (sym e) (record { is = rw f; pairs = rw f; visits = rw f; fits = record { words = omega arith; checks = omega arith }; few = omega arith })
+    subst (IsRun x vs) (sym e) (record { is = rw f; codewords = rw f; visits = rw f; fits = record { words = omega arith; checks = omega arith }; few = omega arith })
 
 -- ---- a protected region
 
 -- pl is the place of the plane of r's kind, and sp r's own span
 module _ (n : ℕ) (x : List ℕ) (r : Region) (pl : Place) (sp : PartSpan) (ep : asPlace pl ≡ eccFor n x (r .kind)) (es : asSpan sp ≡ bytesSpan (length x) (asEntry r)) where
-  pub no-plane : pl ≡ Nothing → planeOf (length x) (seen n x) (asEntry r) ≡ none
+  pub no-plane : pl ≡ Nothing → planeOf (length x) (entriesFor n x) (asEntry r) ≡ none
   unfolding planeOf eccFor
-  no-plane f = plane-law.no-place (length x) (asEntry r) (firstThat (planeFor (r .kind)) (seen n x)) (ap asPlace (sym f) ∙ ep)
+  no-plane f = plane-law.no-place (length x) (asEntry r) (firstThat (planeFor (r .kind)) (entriesFor n x)) (ap asPlace (sym f) ∙ ep)
 
-  pub past-end : (s : Refusal) → sp ≡ Refused s → planeOf (length x) (seen n x) (asEntry r) ≡ none
+  pub past-end : (s : Refusal) → sp ≡ Refused s → planeOf (length x) (entriesFor n x) (asEntry r) ≡ none
   unfolding planeOf
   past-end s f =
-      plane-law.region-outside (length x) (asEntry r) (firstThat (planeFor (r .kind)) (seen n x))
+      plane-law.region-outside (length x) (asEntry r) (firstThat (planeFor (r .kind)) (entriesFor n x))
       (plane-law.outside (length x) (asEntry r) _ _ (ap asSpan (sym f) ∙ es))
 
   module _ (a b c d : ℕ) (fp : pl ≡ At a b) (fs : sp ≡ Bytes c d) where
-    plane : plane-law.Plane (length x) (asEntry r) (firstThat (planeFor (r .kind)) (seen n x)) a b
+    plane : plane-law.Plane (length x) (asEntry r) (firstThat (planeFor (r .kind)) (entriesFor n x)) a b
     unfolding eccFor
     plane =
-        plane-law.place-of (length x) (asEntry r) (firstThat (planeFor (r .kind)) (seen n x)) a b
+        plane-law.place-of (length x) (asEntry r) (firstThat (planeFor (r .kind)) (entriesFor n x)) a b
         (plane-law.inside (length x) (asEntry r) c d (ap asSpan (sym fs) ∙ es) .0) (ap asPlace (sym fp) ∙ ep)
 
     ends : 8 * (r .«word_offset» + r .«word_length») ≤ length x
@@ -62,29 +62,29 @@ module _ (n : ℕ) (x : List ℕ) (r : Region) (pl : Place) (sp : PartSpan) (ep 
     pub ordered : a ≤ b
     ordered = let p = plane in omega (arith, p .first, p .past)
 
-    is-plane : planeOf (length x) (seen n x) (asEntry r) ≡ some (plane .plane)
+    is-plane : planeOf (length x) (entriesFor n x) (asEntry r) ≡ some (plane .plane)
     unfolding planeOf
     is-plane = plane .is
 
-    same-pairs : pairsFrom (min (r .«word_length») (b - a)) (r .«word_offset») a ≡ wordsOf (record { region = asEntry r; plane = plane .plane })
+    same-codewords-from : codewordsFrom (min (r .«word_length») (b - a)) (r .«word_offset») a ≡ wordsOf (record { region = asEntry r; plane = plane .plane })
     unfolding wordsOf
-    same-pairs =
+    same-codewords-from =
         let p = plane in
         let w : b - a ≡ 8 * p .plane .words = omega (arith, p .first, p .past) in
-        ap₂ (λ (m k : ℕ). pairsFrom (min (r .«word_length») m) (r .«word_offset») k) w (p .first)
+        ap₂ (λ (m k : ℕ). codewordsFrom (min (r .«word_length») m) (r .«word_offset») k) w (p .first)
 
     -- as many words as region and plane both have
     pub the-run : (m : ℕ) → m ≡ min (r .«word_length») (b - a) → r .«word_length» < 2 ^ 32
-        → IsRun x (visitWith (asEntry r) (planeOf (length x) (seen n x) (asEntry r))) (record { visited = true; word = r .«word_offset»; check = a; words = m })
+        → IsRun x (visitWith (asEntry r) (planeOf (length x) (entriesFor n x) (asEntry r))) (record { visited = true; word = r .«word_offset»; check = a; words = m })
     the-run m e l =
         let p = plane in
         let g : m ≤ r .«word_length» = omega (arith, min-le-left (r .«word_length») (b - a)) in
         let h : m ≤ b - a = omega (arith, min-le-right (r .«word_length») (b - a)) in
-        let vs : visitWith (asEntry r) (planeOf (length x) (seen n x) (asEntry r)) ≡ visitWith (asEntry r) (some (p .plane)) = ap (visitWith (asEntry r)) is-plane in
+        let vs : visitWith (asEntry r) (planeOf (length x) (entriesFor n x) (asEntry r)) ≡ visitWith (asEntry r) (some (p .plane)) = ap (visitWith (asEntry r)) is-plane in
         let w : b - a ≡ 8 * p .plane .words = omega (arith, p .first, p .past) in
         record {
           is = ap₂ (λ (i j : ℕ). record { visited = true; word = r .«word_offset»; check = i; words = j }) (p .first) (e ∙ ap (min (r .«word_length»)) w) ∙ sym (ap runOf vs);
-          pairs = ap (λ (k : ℕ). pairsFrom k (r .«word_offset») a) e ∙ same-pairs ∙ sym (ap examinedIn vs ∙ examined-one (record { region = asEntry r; plane = p .plane }));
+          codewords = ap (λ (k : ℕ). codewordsFrom k (r .«word_offset») a) e ∙ same-codewords-from ∙ sym (ap codewordsIn vs ∙ codewords-one (record { region = asEntry r; plane = p .plane }));
           visits = sym (ap anyOf vs);
           fits = record { words = omega (arith, ends); checks = omega (arith, p .first, p .past, p .fits) };
           few = omega arith;
@@ -92,11 +92,11 @@ module _ (n : ℕ) (x : List ℕ) (r : Region) (pl : Place) (sp : PartSpan) (ep 
 
 -- the same words, mark and run
 abbrev Same : List Visit → List Visit → Type 0
-Same vs ws = (examinedIn vs ≡ examinedIn ws) × (anyOf vs ≡ anyOf ws) × (runOf vs ≡ runOf ws)
+Same vs ws = (codewordsIn vs ≡ codewordsIn ws) × (anyOf vs ≡ anyOf ws) × (runOf vs ≡ runOf ws)
 
 -- the reserved field is not read
 same-visit : (len : ℕ) (all : List Entry) (e : Entry) → Same (visitOf len all (asEntry (regionOf e))) (visitOf len all e)
-unfolding visitOf isProtected planeOf examinedIn wordsOf
+unfolding visitOf isProtected planeOf codewordsIn wordsOf
 same-visit len all e = go (isProtected e) (firstThat (planeFor (e .kind)) all)
   where
     within : (t : Bool) (p : Entry) → Same (visitWith (asEntry (regionOf e)) (given t p)) (visitWith e (given t p))
@@ -112,18 +112,18 @@ same-visit len all e = go (isProtected e) (firstThat (planeFor (e .kind)) all)
 
 module _ (n : ℕ) (x : List ℕ) (i : ℕ) (r : RegionAt) (f : r ≡ foundAs (regionAt n x i)) where
   pub not-there : r ≡ is.Nothing → (q : ProtectedRun) → q ≡ noRun → IsRun x (visitsAt n x i) q
-  not-there g q e = empty-run x (visitsAt n x i) q e (ap (visitAt (length x) (seen n x)) (found-none (regionAt n x i) (sym g ∙ f)))
+  not-there g q e = empty-run x (visitsAt n x i) q e (ap (visitAt (length x) (entriesFor n x)) (found-none (regionAt n x i) (sym g ∙ f)))
 
   module _ (p : Region) (g : r ≡ is.Found p) where
-    at-region : (q : ProtectedRun) → IsRun x (visitOf (length x) (seen n x) (asEntry p)) q → IsRun x (visitsAt n x i) q
+    at-region : (q : ProtectedRun) → IsRun x (visitOf (length x) (entriesFor n x) (asEntry p)) q → IsRun x (visitsAt n x i) q
     at-region q k =
         let e = found-some (regionAt n x i) p (sym g ∙ f) in
-        let s = same-visit (length x) (seen n x) (e .0) in
-        let vs : visitOf (length x) (seen n x) (asEntry p) ≡ visitOf (length x) (seen n x) (asEntry (regionOf (e .0))) = ap (λ (z : Region). visitOf (length x) (seen n x) (asEntry z)) (e .2) in
-        let there : visitsAt n x i ≡ visitOf (length x) (seen n x) (e .0) = ap (visitAt (length x) (seen n x)) (e .1) in
+        let s = same-visit (length x) (entriesFor n x) (e .0) in
+        let vs : visitOf (length x) (entriesFor n x) (asEntry p) ≡ visitOf (length x) (entriesFor n x) (asEntry (regionOf (e .0))) = ap (λ (z : Region). visitOf (length x) (entriesFor n x) (asEntry z)) (e .2) in
+        let there : visitsAt n x i ≡ visitOf (length x) (entriesFor n x) (e .0) = ap (visitAt (length x) (entriesFor n x)) (e .1) in
         record {
           is = k .is ∙ ap runOf vs ∙ s .2 ∙ sym (ap runOf there);
-          pairs = k .pairs ∙ ap examinedIn vs ∙ s .0 ∙ sym (ap examinedIn there);
+          codewords = k .codewords ∙ ap codewordsIn vs ∙ s .0 ∙ sym (ap codewordsIn there);
           visits = k .visits ∙ ap anyOf vs ∙ s .1 ∙ sym (ap anyOf there);
           fits = k .fits;
           few = k .few;
@@ -131,18 +131,18 @@ module _ (n : ℕ) (x : List ℕ) (i : ℕ) (r : RegionAt) (f : r ≡ foundAs (r
 
     pub unprotected : (t : Bool) → t ≡ isProtected (asEntry p) → t ≡ false → (q : ProtectedRun) → q ≡ noRun → IsRun x (visitsAt n x i) q
     unprotected t e h q z =
-        at-region q (empty-run x (visitOf (length x) (seen n x) (asEntry p)) q z (visit-plain (length x) (seen n x) (asEntry p) (sym e ∙ h)))
+        at-region q (empty-run x (visitOf (length x) (entriesFor n x) (asEntry p)) q z (visit-plain (length x) (entriesFor n x) (asEntry p) (sym e ∙ h)))
 
     pub protected : (t : Bool) → t ≡ isProtected (asEntry p) → t ≡ true
-        → (q : ProtectedRun) → IsRun x (visitWith (asEntry p) (planeOf (length x) (seen n x) (asEntry p))) q → IsRun x (visitsAt n x i) q
+        → (q : ProtectedRun) → IsRun x (visitWith (asEntry p) (planeOf (length x) (entriesFor n x) (asEntry p))) q → IsRun x (visitsAt n x i) q
     protected t e h q k =
         at-region q
-        (subst (λ (vs : List Visit). IsRun x vs q) (sym (visit-protected (length x) (seen n x) (asEntry p) (sym e ∙ h))) k)
+        (subst (λ (vs : List Visit). IsRun x vs q) (sym (visit-protected (length x) (entriesFor n x) (asEntry p) (sym e ∙ h))) k)
 
 -- ---- the words of a run: how many
 
-length-from : (m q c : ℕ) → length (pairsFrom m q c) ≡ m
-unfolding pairsFrom
+length-from : (m q c : ℕ) → length (codewordsFrom m q c) ≡ m
+unfolding codewordsFrom
 length-from zero q c = refl
 length-from (suc m) q c = ap suc (length-from m (suc q) (suc c))
 

@@ -5,9 +5,9 @@ use mathlib.Core.List.{List, [], _∷_, _++_}
 use Prim.Native.Nat.{ℕ, suc, _+_, _≤_}
 use native.Mathlib.Omega.{arith}
 use lib.ListN.{length, length-append}
-use Rattle.paper.specs.Parity.{Class, clean, flipped, beyond, Outcome, cleanWord, correctedWord, uncorrectableWord, outcomeAs}
-use Rattle.paper.specs.Scan.{Report, total, isCorrected, isLost, report}
-use Rattle.paper.proofs.ScanLaw.{plus, noReport, plus-none, plus-assoc, report-none, total-append}
+use Rattle.model.specs.Parity.{Class, clean, flipped, uncorrectable, Outcome, cleanWord, correctedWord, uncorrectableWord, outcomeAs}
+use Rattle.model.specs.Scan.{Report, total, isCorrected, isUncorrectable, report}
+use Rattle.model.proofs.ScanLaw.{plus, noReport, plus-none, plus-assoc, report-none, total-append}
 use Rattle.scan.specs.Tally.{Totals, noTotals, tallied, withReport, reportOn, counted, withClasses, Bounded, Room}
 
 same-report : {a b c a′ b′ c′ : ℕ} → a ≡ a′ → b ≡ b′ → c ≡ c′
@@ -23,12 +23,12 @@ report-front : (k : Class) (w : ℕ) (ks : List Class) → plus (reportOn (outco
 unfolding report total
 report-front clean w ks = same-report (omega arith) (omega arith) (omega arith)
 report-front (flipped i) w ks = same-report (omega arith) (omega arith) (omega arith)
-report-front beyond w ks = same-report (omega arith) (omega arith) (omega arith)
+report-front uncorrectable w ks = same-report (omega arith) (omega arith) (omega arith)
 
 report-both : (ks js : List Class) → plus (report ks) (report js) ≡ report (ks ++ js)
 unfolding report
 report-both ks js =
-    same-report (sym (length-append ks js)) (sym (total-append isCorrected ks js)) (sym (total-append isLost ks js))
+    same-report (sym (length-append ks js)) (sym (total-append isCorrected ks js)) (sym (total-append isUncorrectable ks js))
 
 pub words-on : (o : Outcome) → reportOn o .words ≡ 1
 words-on (cleanWord w) = refl

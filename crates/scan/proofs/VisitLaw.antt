@@ -7,13 +7,13 @@ use Prim.Native.Nat.{ℕ, suc, _+_, _≤_}
 use native.Mathlib.Numerals.{add-one}
 use native.Mathlib.Omega.{arith}
 use lib.ListN.{length, drop, drop-of-length-le}
-use Rattle.paper.specs.Bytes.{given}
-use Rattle.paper.specs.Layout.{Entry}
-use Rattle.paper.specs.Views.{seen, nth}
-use Rattle.paper.specs.Scan.{Report, report, Visit, visitsOver, Pair, examinedIn, classesAt, scanOf}
-use Rattle.paper.specs.Scrub.{visitAt}
-use Rattle.paper.proofs.ScanLaw.{plus-none, none-plus, plus-assoc, report-append, report-none, anyOf, any-append, examined-append, scan-given, visits-from}
-use Rattle.view.proofs.SeenLaw.{length-seen}
+use Rattle.model.specs.Bytes.{given}
+use Rattle.model.specs.Layout.{Entry}
+use Rattle.model.specs.Views.{entriesFor, nth}
+use Rattle.model.specs.Scan.{Report, report, Visit, visitsOver, Codeword, codewordsIn, classesAt, scanOf}
+use Rattle.model.specs.Scrub.{visitAt}
+use Rattle.model.proofs.ScanLaw.{plus-none, none-plus, plus-assoc, report-append, report-none, anyOf, any-append, codewords-append, scan-given, visits-from}
+use Rattle.view.proofs.EntriesForLaw.{length-entriesFor}
 use Rattle.scan.specs.declared.runs.ProtectedRun.{ProtectedRun}
 use Rattle.scan.specs.Runs.{pairsOf, IsRun}
 use Rattle.scan.specs.Tally.{Totals, noTotals, marked, withClasses, withVisits, reportedBy}
@@ -21,21 +21,21 @@ use Rattle.scan.specs.Tally.{Totals, noTotals, marked, withClasses, with
 -- ---- some visits more
 
 none-more : (x : List ℕ) (t : Totals) → withVisits x [] t ≡ t
-unfolding withVisits examinedIn classesAt
+unfolding withVisits codewordsIn classesAt
 none-more x t = rw (or-false (t .any), report-none, plus-none (t .report))
 
 more-append : (x : List ℕ) (vs ws : List Visit) (t : Totals) → withVisits x (vs ++ ws) t ≡ withVisits x ws (withVisits x vs t)
 unfolding withVisits
 more-append x vs ws t =
-    let ps = examinedIn vs in
-    let qs = examinedIn ws in
-    rw (any-append vs ws, or-assoc (t .any) (anyOf vs) (anyOf ws), examined-append vs ws, report-append x ps qs, plus-assoc (t .report) (report (classesAt x ps)) (report (classesAt x qs)))
+    let ps = codewordsIn vs in
+    let qs = codewordsIn ws in
+    rw (any-append vs ws, or-assoc (t .any) (anyOf vs) (anyOf ws), codewords-append vs ws, report-append x ps qs, plus-assoc (t .report) (report (classesAt x ps)) (report (classesAt x qs)))
 
 -- a run is its visits
 pub run-more : (x : List ℕ) (vs : List Visit) (r : ProtectedRun) (t : Totals) → IsRun x vs r
     → withClasses (marked t (r .visited)) (classesAt x (pairsOf r)) ≡ withVisits x vs t
 unfolding withVisits
-run-more x vs r t k = ap₂ (λ (v : Bool) (ps : List Pair). withClasses (marked t v) (classesAt x ps)) (k .visits) (k .pairs)
+run-more x vs r t k = ap₂ (λ (v : Bool) (ps : List Codeword). withClasses (marked t v) (classesAt x ps)) (k .visits) (k .codewords)
 
 -- ---- all entries
 
@@ -47,13 +47,13 @@ more-next x all es i t =
     ∙ more-append x (visitAt (length x) all (nth i es)) (visitsOver (length x) all (drop (suc i) es)) t
     ∙ ap (λ (k : ℕ). withVisits x (visitsOver (length x) all (drop k es)) (withVisits x (visitAt (length x) all (nth i es)) t)) (sym (add-one i))
 
-pub more-done : (x : List ℕ) (n i : ℕ) (t : Totals) → n ≤ i → withVisits x (visitsOver (length x) (seen n x) (drop i (seen n x))) t ≡ t
+pub more-done : (x : List ℕ) (n i : ℕ) (t : Totals) → n ≤ i → withVisits x (visitsOver (length x) (entriesFor n x) (drop i (entriesFor n x))) t ≡ t
 unfolding visitsOver
-more-done x n i t h = let l : length (seen n x) ≤ i = omega (arith, length-seen n x) in rw (drop-of-length-le (seen n x) l) (none-more x t)
+more-done x n i t h = let l : length (entriesFor n x) ≤ i = omega (arith, length-entriesFor n x) in rw (drop-of-length-le (entriesFor n x) l) (none-more x t)
 
 -- ---- the answer
 
 pub all-said : (x : List ℕ) (vs : List Visit) (t : Totals) → t ≡ withVisits x vs noTotals → reportedBy t ≡ scanOf x vs
 unfolding withVisits
 all-said x vs t e =
-    ap reportedBy e ∙ ap (given (anyOf vs)) (none-plus (report (classesAt x (examinedIn vs)))) ∙ sym (scan-given x vs)
+    ap reportedBy e ∙ ap (given (anyOf vs)) (none-plus (report (classesAt x (codewordsIn vs)))) ∙ sym (scan-given x vs)

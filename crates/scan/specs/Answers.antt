@@ -1,6 +1,6 @@
 -- The paper's reading of each answer. (FORMAT 7)
 use mathlib.Core.Option.{Option, none, some}
-use Rattle.paper.specs.Scan.{Report}
+use Rattle.model.specs.Scan.{Report}
 use Rattle.ecc.specs.Answers.{asReport}
 use Rattle.scan.specs.declared.ScanResult.{ScanResult}
 use Rattle.scan.specs.declared.ScanResult.the-variants as is

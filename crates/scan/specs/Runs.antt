@@ -4,15 +4,15 @@ use mathlib.Core.Bool.{true, false}
 use mathlib.Core.List.{List, [], _∷_}
 use Prim.Native.Nat.{ℕ, _+_, _*_, _^_, _≤_, _<_, min}
 use lib.ListN.{length}
-use Rattle.paper.specs.Views.{seen, regionAt}
-use Rattle.paper.specs.Scan.{Visit, Pair, pairsFrom, examinedIn}
-use Rattle.paper.specs.Scrub.{visitAt}
-use Rattle.paper.proofs.ScanLaw.{anyOf}
+use Rattle.model.specs.Views.{entriesFor, regionAt}
+use Rattle.model.specs.Scan.{Visit, Codeword, codewordsFrom, codewordsIn}
+use Rattle.model.specs.Scrub.{visitAt}
+use Rattle.model.proofs.ScanLaw.{anyOf}
 use Rattle.scan.specs.declared.runs.ProtectedRun.{ProtectedRun}
 
 -- the visit of entry i of x, if it has one, with a count n of regions that stands beside x
 abbrev pub visitsAt : ℕ → List ℕ → ℕ → List Visit
-visitsAt n x i = visitAt (length x) (seen n x) (regionAt n x i)
+visitsAt n x i = visitAt (length x) (entriesFor n x) (regionAt n x i)
 
 abbrev pub noRun : ProtectedRun
 noRun = record { visited = false; word = 0; check = 0; words = 0 }
@@ -24,8 +24,8 @@ runOf (v ∷ vs) =
     record { visited = true; word = v .region .offset; check = 8 * v .plane .offset; words = min (v .region .words) (8 * v .plane .words) }
 
 -- its words, each with its check byte
-abbrev pub pairsOf : ProtectedRun → List Pair
-pairsOf r = pairsFrom (r .words) (r .word) (r .check)
+abbrev pub pairsOf : ProtectedRun → List Codeword
+pairsOf r = codewordsFrom (r .words) (r .word) (r .check)
 
 -- they lie in x
 pub record Fits (x : List ℕ) (r : ProtectedRun) : Type 0 where
@@ -35,7 +35,7 @@ pub record Fits (x : List ℕ) (r : ProtectedRun) : Type 0 where
 -- r is the run of the visits vs of x, which are one or none: so it has their words
 pub record IsRun (x : List ℕ) (vs : List Visit) (r : ProtectedRun) : Type 0 where
   pub is : r ≡ runOf vs
-  pub pairs : pairsOf r ≡ examinedIn vs
+  pub codewords : pairsOf r ≡ codewordsIn vs
   pub visits : r .visited ≡ anyOf vs
   pub fits : Fits x r
   pub few : r .words < 2 ^ 32

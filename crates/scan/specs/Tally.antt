@@ -3,10 +3,10 @@ use mathlib.Core.Bool.{Bool, false, _||_}
 use mathlib.Core.List.{List}
 use mathlib.Core.Option.{Option}
 use Prim.Native.Nat.{ℕ, _+_, _^_, _≤_}
-use Rattle.paper.specs.Bytes.{given}
-use Rattle.paper.specs.Parity.{Class, Outcome, cleanWord, correctedWord, uncorrectableWord}
-use Rattle.paper.specs.Scan.{Report, report, Visit, examinedIn, classesAt}
-use Rattle.paper.proofs.ScanLaw.{plus, noReport, anyOf}
+use Rattle.model.specs.Bytes.{given}
+use Rattle.model.specs.Parity.{Class, Outcome, cleanWord, correctedWord, uncorrectableWord}
+use Rattle.model.specs.Scan.{Report, report, Visit, codewordsIn, classesAt}
+use Rattle.model.proofs.ScanLaw.{plus, noReport, anyOf}
 use Rattle.ecc.specs.Answers.{asReport}
 use Rattle.scan.specs.declared.tally.Tally.{Tally}
 
@@ -49,7 +49,7 @@ withClasses t ks = withReport t (report ks)
 
 -- some visits of x more
 unfoldable pub withVisits : List ℕ → List Visit → Totals → Totals
-withVisits x vs t = withClasses (marked t (anyOf vs)) (classesAt x (examinedIn vs))
+withVisits x vs t = withClasses (marked t (anyOf vs)) (classesAt x (codewordsIn vs))
 
 abbrev pub reportedBy : Totals → Option Report
 reportedBy t = given (t .any) (t .report)

@@ -4,7 +4,7 @@ mod tally;
 
 ghost use mathlib.Core.Path.{_≡_};
 ghost use Prim.Native.Nat.{_+_};
-ghost use Rattle.paper.specs.Scan.{classesAt, report, scanRegion, scanIn};
+ghost use Rattle.model.specs.Scan.{classesAt, report, scanRegion, scanIn};
 ghost use Rattle.ecc.specs.Answers.{asReport};
 ghost use Rattle.ecc.specs.CheckTable.{IsCheckTable};
 ghost use Rattle.layout.specs.Regions.{asEntry};

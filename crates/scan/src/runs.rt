@@ -2,8 +2,8 @@
 ghost use mathlib.Core.Path.{_≡_};
 ghost use Prim.Native.Nat as nat;
 ghost use lib.ListN.{length};
-ghost use Rattle.paper.specs.Views.{seen};
-ghost use Rattle.paper.specs.Scan.{planeOf, visitWith};
+ghost use Rattle.model.specs.Views.{entriesFor};
+ghost use Rattle.model.specs.Scan.{planeOf, visitWith};
 ghost use Rattle.layout.specs.Regions.{asEntry};
 ghost use Rattle.scan.specs.Runs.{visitsAt, noRun, IsRun};
 use layout::Region;
@@ -42,7 +42,7 @@ fn min(a: usize, b: usize) -> usize
 
 // Of a region, whatever its flags.
 pub(crate) fn run_with_plane(bytes: &[u8], header: Header, region: Region) -> ProtectedRun
-    ensures { λ r. ⌜ IsRun (now (bytes .entry)) (visitWith (asEntry region) (planeOf (length (now (bytes .entry))) (seen (header .«region_count») (now (bytes .entry))) (asEntry region))) r ⌝ }
+    ensures { λ r. ⌜ IsRun (now (bytes .entry)) (visitWith (asEntry region) (planeOf (length (now (bytes .entry))) (entriesFor (header .«region_count») (now (bytes .entry))) (asEntry region))) r ⌝ }
 {
     let plane = ecc_for(bytes, header, region);
     let span = region_span(bytes.len(), region);

@@ -1,6 +1,6 @@
 // What a scan, scrub or mend has counted so far: every counter is added to here, and nowhere else. (FORMAT 7, 8, 10)
 ghost use mathlib.Core.Path.{_≡_};
-ghost use Rattle.paper.proofs.ScanLaw.{plus};
+ghost use Rattle.model.proofs.ScanLaw.{plus};
 ghost use Rattle.ecc.specs.Answers.{asOutcome, asReport};
 ghost use Rattle.scan.specs.Answers.{asScan};
 ghost use Rattle.scan.specs.Tally.{asTotals, noTotals, marked, withReport, counted, reportOn, reportedBy, Bounded, Room};

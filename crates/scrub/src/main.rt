@@ -9,7 +9,7 @@ fn main() {
         io::write_all(libc::STDERR_FILENO, b"usage: scrub <IMAGE >MENDED\n");
         return;
     }
-    let input = streams::read_input(&mut buffer);
+    let input = stdin::read_input(&mut buffer);
     if input.failed {
         os::fail(b"scrub: standard input");
         return;
@@ -21,7 +21,7 @@ fn main() {
 // The line comes last: it is not said before all of the image is written.
 fn scrub(image: &mut [u8]) {
     let mut line = [0u8; 128];
-    let printed = lines::scrub(image, &mut line);
+    let printed = text::scrub(image, &mut line);
     let n = printed.image;
     let k = printed.line;
     if !io::write_all(libc::STDOUT_FILENO, &image[..n]) {

@@ -4,9 +4,9 @@ use mathlib.Core.List.{List}
 use mathlib.Core.Option.{Option, none, some}
 use Prim.Native.Nat.{ℕ}
 use denote.Ref.{RefT, now}
-use Rattle.paper.specs.Refusals.{Verdict, refuse}
-use Rattle.paper.specs.Views.{Range, range, Span, span, noSpan}
-use Rattle.paper.proofs.OneAnswer.{One, OneAnswer, agree}
+use Rattle.model.specs.Refusals.{Verdict, refuse}
+use Rattle.model.specs.Views.{Range, range, Span, span, noSpan}
+use Rattle.model.proofs.OneAnswer.{One, OneAnswer, agree}
 use Rattle.error.specs.Refused.{asVerdict}
 use Rattle.error.proofs.OneAnswer.{one-refusal}
 use Rattle.tables.specs.declared.PartSpan.{PartSpan}

@@ -8,11 +8,11 @@ use native.Mathlib.Decide.{decLe}
 use native.Mathlib.Omega.{arith}
 use borrow.Author.Tests.{ltb-false, leb-true}
 use lib.Dec.{eqb, ltb, leb}
-use Rattle.paper.specs.Bytes.{given}
-use Rattle.paper.specs.Refusals.{Verdict, fine, refuse, _then_, refuseIf}
-use Rattle.paper.specs.Layout.{Entry, start, end}
-use Rattle.paper.specs.Views.{Range, range, Span, span, noSpan, spanAs, boundsVerdict, bytesSpan, badStride, tableVerdict, tableSpan, recordRange, poolRange}
-use Rattle.paper.proofs.ParseLaw.{then-first, then-rest, not-refused}
+use Rattle.model.specs.Bytes.{given}
+use Rattle.model.specs.Refusals.{Verdict, fine, refuse, _then_, refuseIf}
+use Rattle.model.specs.Layout.{Entry, start, end}
+use Rattle.model.specs.Views.{Range, range, Span, span, noSpan, spanAs, boundsVerdict, bytesSpan, badStride, tableVerdict, tableSpan, recordRange, poolRange}
+use Rattle.model.proofs.ParseLaw.{then-first, then-rest, not-refused}
 
 -- a place within len bytes
 abbrev pub Within : ℕ → ℕ → ℕ → Type 0

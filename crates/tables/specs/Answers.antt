@@ -1,7 +1,7 @@
 -- The paper's reading of each answer. (FORMAT 6)
 use mathlib.Core.Option.{Option, none, some}
 use Prim.Native.Nat.{ℕ, _≤_}
-use Rattle.paper.specs.Views.{Range, range, Span, span, noSpan}
+use Rattle.model.specs.Views.{Range, range, Span, span, noSpan}
 use Rattle.error.specs.Refused.{numberOf, detailOf}
 use Rattle.tables.specs.declared.PartSpan.{PartSpan}
 use Rattle.tables.specs.declared.PartSpan.the-variants.{Bytes, Refused}

@@ -5,7 +5,7 @@ use mathlib.Core.List.{List}
 use mathlib.Core.Option.{Option, none, some}
 use Prim.Native.Nat.{ℕ, _+_}
 use denote.Ref.{RefT, now}
-use Rattle.paper.specs.Views.{Range, Span, span, noSpan, partIn, partOf}
+use Rattle.model.specs.Views.{Range, Span, span, noSpan, partIn, partOf}
 
 -- `r` starts n bytes behind the start of `lent`, and holds xs
 pub record PartAt (lent r : RefT (List ℕ)) (n : ℕ) (xs : List ℕ) : Type 0 where

@@ -3,7 +3,7 @@ ghost use mathlib.Core.Path.{_≡_};
 ghost use mathlib.Core.List.{[]};
 ghost use Prim.Native.Nat.{ℕ, _+_, _*_, _≤_};
 ghost use lib.ListN.{length};
-ghost use Rattle.paper.specs.Views.{bytesSpan, tableSpan, isTable, recordCount, recordRange, rangeIsForward, poolRange};
+ghost use Rattle.model.specs.Views.{bytesSpan, tableSpan, isTable, recordCount, recordRange, rangeIsForward, poolRange};
 ghost use Rattle.layout.specs.Regions.{asEntry};
 ghost use Rattle.tables.specs.Answers.{asSpan, asPlace};
 ghost use Rattle.tables.specs.Parts.{PartAt, VeryPartOf, VeryPartIn};

@@ -4,9 +4,9 @@ use mathlib.Core.List.{List}
 use mathlib.Core.Option.{Option, none, some}
 use Prim.Native.Nat.{ℕ}
 use native.Mathlib.Omega.{arith}
-use Rattle.paper.specs.Layout.{Entry, count}
-use Rattle.paper.specs.Parse.{Header, accepted, refused, parsedAs, parseVerdict, headerOf}
-use Rattle.paper.specs.Parse as paper
+use Rattle.model.specs.Layout.{Entry, count}
+use Rattle.model.specs.Parse.{Header, accepted, refused, parsedAs, parseVerdict, headerOf}
+use Rattle.model.specs.Parse as model
 use Rattle.error.specs.declared.Refusal.{Refusal}
 use Rattle.error.specs.Refused.{numberOf, detailOf}
 use Rattle.layout.specs.declared.Region.{Region}
@@ -16,7 +16,7 @@ use Rattle.view.specs.declared.header.ParseResult.{ParseResult}
 use Rattle.view.specs.declared.header.ParseResult.the-variants.{Parsed, Refused}
 use Rattle.view.specs.declared.regions.RegionAt.{RegionAt}
 use Rattle.view.specs.declared.regions.RegionAt.the-variants.{Found, Nothing}
-use Rattle.paper.specs.Refusals.{Verdict, fine, refuse}
+use Rattle.model.specs.Refusals.{Verdict, fine, refuse}
 use Rattle.view.specs.Answers.{CountAnswer, fineWith, refusedWith, withCount, foundAs, asParsed}
 
 pub counted-fine : (v : Verdict) (n m : ℕ) → fineWith n ≡ withCount v m → v ≡ fine
@@ -57,15 +57,15 @@ refused-as : (v : Verdict) (n d : ℕ) (g : Header) → refused n d ≡ parsedAs
 refused-as fine n d g e = cc
 refused-as (refuse n′ d′) n d g e = cc
 
-module _ (x : List ℕ) (r : ParseResult) (e : asParsed r ≡ paper.parse x) where
+module _ (x : List ℕ) (r : ParseResult) (e : asParsed r ≡ model.parse x) where
   pub parsed-fine : (h : view.Header) → r ≡ Parsed h → parseVerdict x ≡ fine
-  unfolding paper.parse
+  unfolding model.parse
   parsed-fine h f = parsed-as (parseVerdict x) _ (headerOf x) (ap asParsed (sym f) ∙ e) .0
 
   pub parsed-count : (h : view.Header) → r ≡ Parsed h → h .«region_count» ≡ count x
-  unfolding paper.parse headerOf
+  unfolding model.parse headerOf
   parsed-count h f = ap (λ (g : Header). g .regions) (parsed-as (parseVerdict x) _ (headerOf x) (ap asParsed (sym f) ∙ e) .1)
 
   pub parsed-refused : (s : Refusal) → r ≡ Refused s → parseVerdict x ≡ refuse (numberOf s) (detailOf s)
-  unfolding paper.parse
+  unfolding model.parse
   parsed-refused s f = refused-as (parseVerdict x) (numberOf s) (detailOf s) (headerOf x) (ap asParsed (sym f) ∙ e)

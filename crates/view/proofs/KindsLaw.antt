@@ -10,10 +10,10 @@ use lib.ListN.{length, getD, drop}
 use lib.Seq.{drop-cons, drop-nil}
 use native.Mathlib.Omega.{arith}
 use lib.ListN.{drop-of-length-le}
-use Rattle.paper.specs.Bytes.{read}
-use Rattle.paper.specs.Layout.{Entry, voted, directoryBytesOf, directoryOf, entries}
-use Rattle.paper.specs.Parse.{among}
-use Rattle.paper.proofs.LayoutLaw.{entryIn, noEntry, entry-at, length-directoryOf, kind-in}
+use Rattle.model.specs.Bytes.{read}
+use Rattle.model.specs.Layout.{Entry, voted, directoryBytesOf, directoryOf, entries}
+use Rattle.model.specs.Parse.{among}
+use Rattle.model.proofs.LayoutLaw.{entryIn, noEntry, entry-at, length-directoryOf, kind-in}
 use Rattle.view.specs.Kinds.{kindsOf, elem}
 
 pub length-kinds : (es : List Entry) → length (kindsOf es) ≡ length es

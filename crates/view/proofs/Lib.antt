@@ -1,4 +1,4 @@
 pub mod KindsLaw
 pub mod AnswersLaw
-pub mod SeenLaw
+pub mod EntriesForLaw
 pub mod OneAnswer

@@ -1,9 +1,9 @@
 -- No two answers fit one promise. (`asParsed` tells every two of `parse` apart. `region_at` and `find_region` answer what `foundAs` gives, and `ecc_for` a Place: `one-place` of crate tables.) Assumes nothing.
 use mathlib.Core.Path.{_≡_, refl, ap}
-use Rattle.paper.specs.Refusals.{Verdict, refuse}
-use Rattle.paper.specs.Parse.{Parsed, accepted, refused}
-use Rattle.paper.specs.Parse as paper
-use Rattle.paper.proofs.OneAnswer.{OneAnswer, agree}
+use Rattle.model.specs.Refusals.{Verdict, refuse}
+use Rattle.model.specs.Parse.{Parsed, accepted, refused}
+use Rattle.model.specs.Parse as model
+use Rattle.model.proofs.OneAnswer.{OneAnswer, agree}
 use Rattle.error.specs.Refused.{asVerdict}
 use Rattle.error.proofs.OneAnswer.{one-refusal}
 use Rattle.tables.proofs.OneAnswer.{one-place}
@@ -18,7 +18,7 @@ use Rattle.view.proofs.regions.find_region.Reads as find-region
 use Rattle.view.proofs.regions.ecc_for.Reads as ecc-for
 
 -- the header that the paper's stands for
-abbrev coded : paper.Header → Header
+abbrev coded : model.Header → Header
 coded h =
     record {
       «region_count» = h .regions;

@@ -2,13 +2,13 @@
 use mathlib.Core.Bool.{Bool, true, false}
 use mathlib.Core.Option.{Option, none, some}
 use Prim.Native.Nat.{ℕ}
-use Rattle.paper.specs.Layout.{Entry}
+use Rattle.model.specs.Layout.{Entry}
 use Rattle.layout.specs.Regions.{regionOf}
 use Rattle.view.specs.declared.regions.RegionAt.{RegionAt}
 use Rattle.view.specs.declared.regions.RegionAt.the-variants as found
-use Rattle.paper.specs.Refusals.{Verdict, fine, refuse}
-use Rattle.paper.specs.Parse.{Parsed, accepted, refused}
-use Rattle.paper.specs.Parse as paper
+use Rattle.model.specs.Refusals.{Verdict, fine, refuse}
+use Rattle.model.specs.Parse.{Parsed, accepted, refused}
+use Rattle.model.specs.Parse as model
 use Rattle.error.specs.Refused.{numberOf, detailOf}
 use Rattle.view.specs.declared.header.Header.{Header}
 use Rattle.view.specs.declared.header.ParseResult.{ParseResult}
@@ -16,7 +16,7 @@ use Rattle.view.specs.declared.header.ParseResult.the-variants as parse
 use Rattle.view.specs.declared.header.Counted.{Counted}
 use Rattle.view.specs.declared.header.Counted.the-variants as counted
 
-abbrev pub asHeader : Header → paper.Header
+abbrev pub asHeader : Header → model.Header
 asHeader h =
     record {
       regions = h .«region_count»;

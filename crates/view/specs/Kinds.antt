@@ -3,7 +3,7 @@ use mathlib.Core.Bool.{Bool, true, false, _||_}
 use mathlib.Core.List.{List, [], _∷_}
 use Prim.Native.Nat.{ℕ}
 use lib.Dec.{eqb}
-use Rattle.paper.specs.Layout.{Entry}
+use Rattle.model.specs.Layout.{Entry}
 
 unfoldable pub kindsOf : List Entry → List ℕ
 kindsOf [] = []

@@ -3,9 +3,9 @@ ghost use mathlib.Core.Path.{_≡_};
 ghost use mathlib.Core.Bool.{_||_};
 ghost use Prim.Native.Nat.{ℕ, _+_, _*_, _<_, _≤_};
 ghost use lib.ListN.{length, take};
-ghost use Rattle.paper.specs.Layout.{headerLength, prologue, countIn, count, directoryOf, end};
-ghost use Rattle.paper.specs.Parse as paper;
-ghost use Rattle.paper.proofs.LayoutLaw.{entryIn};
+ghost use Rattle.model.specs.Layout.{headerLength, prologue, countIn, count, directoryOf, end};
+ghost use Rattle.model.specs.Parse as model;
+ghost use Rattle.model.proofs.LayoutLaw.{entryIn};
 ghost use Rattle.error.specs.Refused.{asCheck};
 ghost use Rattle.view.specs.Answers.{asCounted, withCount, asParsed};
 ghost use Rattle.view.specs.Kinds.{elem, kindsOf};
@@ -48,7 +48,7 @@ pub(crate) enum Counted {
 }
 
 pub fn parse(bytes: &[u8]) -> ParseResult
-    ensures { λ r. ⌜ asParsed r ≡ paper.parse (now (bytes .entry)) ⌝ }
+    ensures { λ r. ⌜ asParsed r ≡ model.parse (now (bytes .entry)) ⌝ }
 {
     let checked = check_header(bytes);
     match checked {
@@ -63,7 +63,7 @@ pub fn parse(bytes: &[u8]) -> ParseResult
 
 // All of parse but the marks.
 fn check_header(bytes: &[u8]) -> Counted
-    ensures { λ r. ⌜ asCounted r ≡ withCount (paper.parseVerdict (now (bytes .entry))) (count (now (bytes .entry))) ⌝ }
+    ensures { λ r. ⌜ asCounted r ≡ withCount (model.parseVerdict (now (bytes .entry))) (count (now (bytes .entry))) ⌝ }
 {
     if bytes.len() < 48 {
         return Counted::Refuse(Refusal::Truncated);
@@ -84,7 +84,7 @@ fn check_header(bytes: &[u8]) -> Counted
 // The voted prologue's fields; the count that it gives is at most 1024.
 fn check_prologue(bytes: &[u8]) -> Counted
     requires { ⌜ 48 ≤ length (now bytes) ⌝ }
-    ensures { λ r. ⌜ asCounted r ≡ withCount (paper.prologueVerdict (prologue (now (bytes .entry)))) (count (now (bytes .entry))) ⌝ }
+    ensures { λ r. ⌜ asCounted r ≡ withCount (model.prologueVerdict (prologue (now (bytes .entry)))) (count (now (bytes .entry))) ⌝ }
 {
     if voted_u32(bytes, 0, 16, 0) != MAGIC {
         return Counted::Refuse(Refusal::BadMagic);
@@ -108,7 +108,7 @@ fn check_prologue(bytes: &[u8]) -> Counted
 
 fn check_directory(bytes: &[u8], n: usize) -> Check
     requires { ⌜ (headerLength n ≤ length (now bytes)) × (n ≤ 1024) ⌝ }
-    ensures { λ r. ⌜ asCheck r ≡ paper.entriesVerdict (length (now (bytes .entry))) 0 (directoryOf n (now (bytes .entry))) ⌝ }
+    ensures { λ r. ⌜ asCheck r ≡ model.entriesVerdict (length (now (bytes .entry))) 0 (directoryOf n (now (bytes .entry))) ⌝ }
 {
     let mut kinds = [0u16; MAX_REGIONS];
     check_entries_in(bytes, n, &mut kinds[..n])
@@ -117,7 +117,7 @@ fn check_directory(bytes: &[u8], n: usize) -> Check
 // With room for the kinds.
 fn check_entries_in(bytes: &[u8], n: usize, kinds: &mut [u16]) -> Check
     requires { ⌜ (headerLength n ≤ length (now bytes)) × (n ≤ 1024) × (length (now kinds) ≡ n) ⌝ }
-    ensures { λ r. ⌜ asCheck r ≡ paper.entriesVerdict (length (now (bytes .entry))) 0 (directoryOf n (now (bytes .entry))) ⌝ }
+    ensures { λ r. ⌜ asCheck r ≡ model.entriesVerdict (length (now (bytes .entry))) 0 (directoryOf n (now (bytes .entry))) ⌝ }
 {
     vote_kinds(bytes, n, kinds);
     check_entries(bytes, n, kinds)
@@ -138,7 +138,7 @@ fn vote_kinds(bytes: &[u8], n: usize, kinds: &mut [u16])
 // For each entry in turn: its end past the image, then a later entry with its kind.
 fn check_entries(bytes: &[u8], n: usize, kinds: &[u16]) -> Check
     requires { ⌜ (headerLength n ≤ length (now bytes)) × (n ≤ 1024) × (length (now kinds) ≡ n) × (now kinds ≡ kindsOf (directoryOf n (now bytes))) ⌝ }
-    ensures { λ r. ⌜ asCheck r ≡ paper.entriesVerdict (length (now (bytes .entry))) 0 (directoryOf n (now (bytes .entry))) ⌝ }
+    ensures { λ r. ⌜ asCheck r ≡ model.entriesVerdict (length (now (bytes .entry))) 0 (directoryOf n (now (bytes .entry))) ⌝ }
 {
     let mut i: usize = 0;
     while i < n {

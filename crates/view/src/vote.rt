@@ -2,12 +2,12 @@
 ghost use mathlib.Core.Path.{_≡_};
 ghost use Prim.Native.Nat.{ℕ, _+_, _*_, _<_, _≤_};
 ghost use lib.ListN.{length, take, drop};
-ghost use Rattle.paper.specs.Bytes.{at, read, thrice};
-ghost use Rattle.paper.specs.Crc as paper;
-ghost use Rattle.paper.specs.Layout.{voted, prologue, differs, headerLength};
-ghost use Rattle.paper.proofs.LayoutLaw.{entryIn};
+ghost use Rattle.model.specs.Bytes.{at, read, thrice};
+ghost use Rattle.model.specs.Crc as model;
+ghost use Rattle.model.specs.Layout.{voted, prologue, differs, headerLength};
+ghost use Rattle.model.proofs.LayoutLaw.{entryIn};
 ghost use Rattle.layout.specs.Regions.{regionOf};
-ghost use Rattle.paper.proofs.CopiesLaw.{offAt};
+ghost use Rattle.model.proofs.CopiesLaw.{offAt};
 use layout::Region;
 use scalar::maj3;
 
@@ -75,7 +75,7 @@ pub(crate) fn copies_differ(bytes: &[u8], base: usize, k: usize) -> bool
 // The checksum of the voted prologue's first twelve bytes.
 pub(crate) fn voted_checksum(bytes: &[u8]) -> u32
     requires { ⌜ 48 ≤ length (now bytes) ⌝ }
-    ensures { λ r. ⌜ r ≡ paper.crc32 (take 12 (prologue (now (bytes .entry)))) ⌝ }
+    ensures { λ r. ⌜ r ≡ model.crc32 (take 12 (prologue (now (bytes .entry)))) ⌝ }
 {
     let mut start = [0u8; 12];
     let mut j: usize = 0;

@@ -7,9 +7,9 @@ use native.Mathlib.Omega.{arith}
 use borrow.Author.Tests.{ltb-false, lt-ltb, le-ltb, eqb-true, not-false}
 use lib.Dec.{eqb, ltb}
 use lib.ListN.{length}
-use Rattle.paper.specs.Refusals.{Verdict, fine, refuse, tooManyRegions, _then_, refuseIf}
-use Rattle.paper.specs.Writer.{Row, Written, rowWords, planImage, imageLength}
-use Rattle.laws.proofs.VerdictLaw.{passed}
+use Rattle.model.specs.Refusals.{Verdict, fine, refuse, tooManyRegions, _then_, refuseIf}
+use Rattle.model.specs.Writer.{Row, Written, rowWords, planImage, imageLength}
+use Rattle.lemmas.proofs.VerdictLaw.{passed}
 use Rattle.error.specs.declared.Refusal.{Refusal}
 use Rattle.error.specs.declared.Refusal.the-variants.{TooManyRegions}
 use Rattle.writer.specs.declared.plan.Checked.{Checked}
@@ -20,7 +20,7 @@ use Rattle.writer.specs.declared.sizes.WriteResult.the-variants as resul
 use Rattle.writer.specs.Answers.{wrote, refused, asWritten, answerAs, Answered}
 use Rattle.writer.specs.Kept.{sizesVerdict, checkedVerdict}
 use Rattle.put.specs.Put.{Put}
-use Rattle.laws.proofs.AppendLaw.{put-over}
+use Rattle.lemmas.proofs.AppendLaw.{put-over}
 
 -- ---- what check_sizes says
 

@@ -6,10 +6,10 @@ use Prim.Native.Nat.{ℕ, _+_, _*_, _≤_, _<_, zero-le}
 use native.Mathlib.Omega.{arith}
 use lib.ListN.{length, getD, drop}
 use lib.Seq.{drop-drop}
-use Rattle.paper.specs.Layout.{Entry}
-use Rattle.paper.specs.Writer.{Row, flagged, planeWords, rowEntry, rowEntries, planeEntry, planeEntries, rowWords, planesWords, entryBytes, entriesBytes, planeBytes, planesBytes}
+use Rattle.model.specs.Layout.{Entry}
+use Rattle.model.specs.Writer.{Row, flagged, planeWords, rowEntry, rowEntries, planeEntry, planeEntries, rowWords, planesWords, entryBytes, entriesBytes, planeBytes, planesBytes}
 use Rattle.writer.specs.Kept.{wordsIn, rowOf, rowsOf}
-use Rattle.laws.proofs.ImageLaw.{length-entry}
+use Rattle.lemmas.proofs.ImageLaw.{length-entry}
 use Rattle.put.specs.Put.{Put}
 use Rattle.put.proofs.PutLaw.{Going, begin, go-on, gone, fits}
 use Rattle.writer.proofs.RowsLaw.{rows-end, words-next, planes-next, entries-next, plane-next, plane-none, checks-next, checks-none}

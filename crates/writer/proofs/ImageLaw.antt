@@ -4,11 +4,11 @@ use mathlib.Core.List.{List, _++_}
 use Prim.Native.Nat.{ℕ, _+_, _*_}
 use native.Mathlib.Omega.{arith}
 use lib.ListN.{length, length-append}
-use Rattle.paper.specs.Bytes.{thrice}
-use Rattle.paper.specs.Writer.{Row, rowEntries, planeEntries, rowWords, regions, firstWord, planDirectory, entriesBytes, prologueBytes, planesBytes, planImage, imageLength}
-use Rattle.paper.proofs.BytesLaw.{length-thrice}
-use Rattle.laws.proofs.ImageLaw.{length-entriesBytes, length-directory, length-prologueBytes}
-use Rattle.laws.proofs.PlanPairs.{length-planes}
+use Rattle.model.specs.Bytes.{thrice}
+use Rattle.model.specs.Writer.{Row, rowEntries, planeEntries, rowWords, regions, firstWord, planDirectory, entriesBytes, prologueBytes, planesBytes, planImage, imageLength}
+use Rattle.model.proofs.BytesLaw.{length-thrice}
+use Rattle.lemmas.proofs.ImageLaw.{length-entriesBytes, length-directory, length-prologueBytes}
+use Rattle.lemmas.proofs.PlanCodewords.{length-planes}
 
 -- one copy of the directory, the regions packed from word a on, the rows' words together w
 abbrev pub copyOf : ℕ → ℕ → List Row → List ℕ

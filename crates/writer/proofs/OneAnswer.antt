@@ -3,8 +3,8 @@ use mathlib.Core.Path.{_≡_, refl, ap, ap₂}
 use Prim.Native.Nat.{ℕ}
 use native.Mathlib.Omega.{arith}
 use denote.Ref.{now}
-use Rattle.paper.specs.Refusals.{refuse}
-use Rattle.paper.proofs.OneAnswer.{OneAnswerAnd, Reading, agree}
+use Rattle.model.specs.Refusals.{refuse}
+use Rattle.model.proofs.OneAnswer.{OneAnswerAnd, Reading, agree}
 use Rattle.error.specs.Refused.{numberOf, detailOf}
 use Rattle.error.proofs.OneAnswer.{one-refusal}
 use Rattle.writer.specs.declared.sizes.WriteResult.{WriteResult}

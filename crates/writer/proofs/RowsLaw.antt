@@ -6,7 +6,7 @@ use Prim.Native.Nat.{ℕ, suc, _+_, _*_, _≤_, _<_}
 use native.Mathlib.Numerals.{add-one}
 use lib.ListN.{length, getD, drop, drop-of-length-le}
 use lib.Seq.{drop-cons}
-use Rattle.paper.specs.Writer.{Row, flagged, planeWords, rowEntry, rowEntries, planeEntry, planeEntries, rowWords, planesWords, entryBytes, entriesBytes, planeBytes, planesBytes}
+use Rattle.model.specs.Writer.{Row, flagged, planeWords, rowEntry, rowEntries, planeEntry, planeEntries, rowWords, planesWords, entryBytes, entriesBytes, planeBytes, planesBytes}
 use Rattle.writer.specs.Kept.{wordsIn, rowOf, rowsOf}
 
 pub length-rowsOf : (xs : List ℕ) → length (rowsOf xs) ≡ length xs

@@ -9,11 +9,11 @@ use borrow.Author.Tests.{lt-ltb, ltb-false}
 use lib.Dec.{eqb, ltb}
 use lib.ListN.{length, getD, take, drop, set, length-set}
 use lib.Seq.{drop-cons, getD-set-same, getD-set-other}
-use Rattle.paper.specs.Refusals.{fine}
-use Rattle.paper.specs.Layout.{hasParity}
-use Rattle.paper.specs.Writer as paper
-use Rattle.paper.specs.Writer.{planes, regions, kindAmong, rowsVerdict}
-use Rattle.laws.proofs.VerdictLaw.{or-left}
+use Rattle.model.specs.Refusals.{fine}
+use Rattle.model.specs.Layout.{hasParity}
+use Rattle.model.specs.Writer as model
+use Rattle.model.specs.Writer.{planes, regions, kindAmong, rowsVerdict}
+use Rattle.lemmas.proofs.VerdictLaw.{or-left}
 use Rattle.error.specs.declared.Refusal.{Refusal}
 use Rattle.error.specs.declared.Refusal.the-variants.{BadPlan, DuplicateRegion}
 use Rattle.error.specs.Refused.{asVerdict}
@@ -26,8 +26,8 @@ use Rattle.writer.proofs.MarksLaw.{mark-sets, mark-stays}
 use Rattle.writer.proofs.CheckingLaw.{check-bad, check-again, check-fine}
 
 -- the marks are the kinds of the earlier rows
-pub record Marks (plan : List ℕ) (earlier : List paper.Row) : Type 0 where
-  pub seen : (x : ℕ) → x < 0x8000 → marked plan x ≡ kindAmong x earlier
+pub record Marks (plan : List ℕ) (earlier : List model.Row) : Type 0 where
+  pub entriesFor : (x : ℕ) → x < 0x8000 → marked plan x ≡ kindAmong x earlier
   pub long : length plan ≡ 1536
 
 abbrev pub packs : List Row → List ℕ
@@ -35,7 +35,7 @@ packs [] = []
 packs (r ∷ rs) = packedRow r ∷ packs rs
 
 -- what comes of rows i, i + 1, .. where the ones before were fine and had n regions
-pub record Ran (i n : ℕ) (plan : List ℕ) (earlier : List paper.Row) (rows : List Row) (state : Checked) (after : List ℕ) : Type 0 where
+pub record Ran (i n : ℕ) (plan : List ℕ) (earlier : List model.Row) (rows : List Row) (state : Checked) (after : List ℕ) : Type 0 where
   pub refused : (e : Refusal) → state ≡ Refused e → rowsVerdict i earlier (asPlan rows) ≡ asVerdict e
   pub fined : (m : ℕ) → state ≡ Fine m → rowsVerdict i earlier (asPlan rows) ≡ fine
   pub counted : (m : ℕ) → state ≡ Fine m → m ≡ n + regions (asPlan rows)
@@ -58,7 +58,7 @@ regions-cons r rs = go (hasParity (r .flags))
     go false = omega arith
 
 -- no rows
-ran-none : (i n : ℕ) (plan : List ℕ) (earlier : List paper.Row) → length plan ≡ 1536 → Ran i n plan earlier [] (Fine n) plan
+ran-none : (i n : ℕ) (plan : List ℕ) (earlier : List model.Row) → length plan ≡ 1536 → Ran i n plan earlier [] (Fine n) plan
 unfolding rowsVerdict asPlan regions planes
 ran-none i n plan earlier l = record {
   refused = λ e h. absurd (never e n h);
@@ -76,7 +76,7 @@ taken-refused i [] e plan = refl
 taken-refused i (r ∷ rs) e plan = taken-refused (suc i) rs e plan
 
 -- a row that refuses
-ran-stop : (i n : ℕ) (plan : List ℕ) (earlier : List paper.Row) (rows : List Row) (e : Refusal) → length plan ≡ 1536
+ran-stop : (i n : ℕ) (plan : List ℕ) (earlier : List model.Row) (rows : List Row) (e : Refusal) → length plan ≡ 1536
     → rowsVerdict i earlier (asPlan rows) ≡ asVerdict e → Ran i n plan earlier rows (Refused e) plan
 ran-stop i n plan earlier rows e l v = record {
   refused = λ f h. v ∙ ap asVerdict (let z : e ≡ f = cc in z);
@@ -89,7 +89,7 @@ ran-stop i n plan earlier rows e l v = record {
 
 -- ---- one row that is fine
 
-module _ (i : ℕ) (plan : List ℕ) (earlier : List paper.Row) (r : Row) (low : r .kind < 0x8000) (g : Marks plan earlier) where
+module _ (i : ℕ) (plan : List ℕ) (earlier : List model.Row) (r : Row) (low : r .kind < 0x8000) (g : Marks plan earlier) where
   abbrev next : List ℕ
   next = withRow (withMark plan (r .kind)) i r
 
@@ -137,7 +137,7 @@ module _ (i : ℕ) (plan : List ℕ) (earlier : List paper.Row) (r : Row) (low :
   next-marks : Marks next (asRow r ∷ earlier)
   unfolding kindAmong
   next-marks = record {
-    seen = λ x h. with-row-mark (withMark plan (r .kind)) x h ∙ mark-sets plan (r .kind) x (omega (arith, g .long)) ∙ ap (λ (t : Bool). eqb (r .kind) x || t) (g .seen x h);
+    entriesFor = λ x h. with-row-mark (withMark plan (r .kind)) x h ∙ mark-sets plan (r .kind) x (omega (arith, g .long)) ∙ ap (λ (t : Bool). eqb (r .kind) x || t) (g .entriesFor x h);
     long = next-length;
   }
 
@@ -162,16 +162,16 @@ module _ (i : ℕ) (plan : List ℕ) (earlier : List paper.Row) (r : Row) (low :
 
 -- ---- all of them
 
-verdict-bad : (i : ℕ) (earlier : List paper.Row) (r : Row) (rs : List Row) → badRow r ≡ true → rowsVerdict i earlier (asPlan (r ∷ rs)) ≡ asVerdict (BadPlan i)
+verdict-bad : (i : ℕ) (earlier : List model.Row) (r : Row) (rs : List Row) → badRow r ≡ true → rowsVerdict i earlier (asPlan (r ∷ rs)) ≡ asVerdict (BadPlan i)
 unfolding rowsVerdict asPlan
 verdict-bad i earlier r rs e = simp e
 
-verdict-again : (i : ℕ) (earlier : List paper.Row) (r : Row) (rs : List Row) → badRow r ≡ false → kindAmong (r .kind) earlier ≡ true
+verdict-again : (i : ℕ) (earlier : List model.Row) (r : Row) (rs : List Row) → badRow r ≡ false → kindAmong (r .kind) earlier ≡ true
     → rowsVerdict i earlier (asPlan (r ∷ rs)) ≡ asVerdict (DuplicateRegion (r .kind))
 unfolding rowsVerdict asPlan
 verdict-again i earlier r rs e f = simp (e, f)
 
-verdict-on : (i : ℕ) (earlier : List paper.Row) (r : Row) (rs : List Row) → badRow r ≡ false → kindAmong (r .kind) earlier ≡ false
+verdict-on : (i : ℕ) (earlier : List model.Row) (r : Row) (rs : List Row) → badRow r ≡ false → kindAmong (r .kind) earlier ≡ false
     → rowsVerdict i earlier (asPlan (r ∷ rs)) ≡ rowsVerdict (suc i) (asRow r ∷ earlier) (asPlan rs)
 unfolding rowsVerdict asPlan
 verdict-on i earlier r rs e f = simp (e, f)
@@ -186,11 +186,11 @@ few-regions flags = go (hasParity flags)
     go true = omega arith
     go false = omega arith
 
-abbrev Does : ℕ → ℕ → List ℕ → List paper.Row → List Row → Checked × List ℕ → Type 0
+abbrev Does : ℕ → ℕ → List ℕ → List model.Row → List Row → Checked × List ℕ → Type 0
 Does i n plan earlier rows a = Ran i n plan earlier rows (a .0) (a .1)
 
 -- a row, and what the rows after it make of any state
-module _ (i n : ℕ) (plan : List ℕ) (earlier : List paper.Row) (r : Row) (rs : List Row) (g : Marks plan earlier) (h : n + 2 * suc (length rs) < 2 ^ 64)
+module _ (i n : ℕ) (plan : List ℕ) (earlier : List model.Row) (r : Row) (rs : List Row) (g : Marks plan earlier) (h : n + 2 * suc (length rs) < 2 ^ 64)
     (rec : (plan′ : List ℕ) → Marks plan′ (asRow r ∷ earlier) → (n′ : ℕ) → n′ + 2 * length rs < 2 ^ 64 → Does (suc i) n′ plan′ (asRow r ∷ earlier) rs (checkRows (suc i) rs (Fine n′, plan′))) where
   abbrev Goal : Checked × List ℕ → Type 0
   Goal a = Does i n plan earlier (r ∷ rs) (checkRows (suc i) rs a)
@@ -206,7 +206,7 @@ module _ (i n : ℕ) (plan : List ℕ) (earlier : List paper.Row) (r : Row) (rs 
       let e : (n + regionsOf (r .flags)) % 2 ^ 64 ≡ n + regionsOf (r .flags) = mod-eq-of-lt (omega (arith, few, h)) in
       let a = checkRows (suc i) rs (Fine (n + regionsOf (r .flags)), new) in
       subst (λ (k : ℕ). Goal (Fine k, new)) (sym e)
-      (ran-on i plan earlier r low g n rs (a .0) (a .1) (verdict-on i earlier r rs b (sym (g .seen (r .kind) low) ∙ m))
+      (ran-on i plan earlier r low g n rs (a .0) (a .1) (verdict-on i earlier r rs b (sym (g .entriesFor (r .kind) low) ∙ m))
       (rec new (next-marks i plan earlier r low g) (n + regionsOf (r .flags)) (omega (arith, few, h))))
 
   taken : (b : Bool) → badRow r ≡ b → (m : Bool) → marked plan (r .kind) ≡ m → Goal (checkRow plan (Fine n) i r, planAfter plan (Fine n) i r)
@@ -215,12 +215,12 @@ module _ (i n : ℕ) (plan : List ℕ) (earlier : List paper.Row) (r : Row) (rs 
       subst Goal (λ j. (t .0 j, t .1 j)) (stopped (BadPlan i) (verdict-bad i earlier r rs e))
   taken false e true f =
       let t = check-again plan (Fine n) i r n refl e f in
-      subst Goal (λ j. (t .0 j, t .1 j)) (stopped (DuplicateRegion (r .kind)) (verdict-again i earlier r rs e (sym (g .seen (r .kind) (low-kind r e)) ∙ f)))
+      subst Goal (λ j. (t .0 j, t .1 j)) (stopped (DuplicateRegion (r .kind)) (verdict-again i earlier r rs e (sym (g .entriesFor (r .kind) (low-kind r e)) ∙ f)))
   taken false e false f =
       let t = check-fine plan (Fine n) i r n refl e f in
       subst Goal (λ j. (t .0 j, t .1 j)) (went-on e f)
 
-pub runs : (rows : List Row) (i n : ℕ) (plan : List ℕ) (earlier : List paper.Row) → Marks plan earlier → n + 2 * length rows < 2 ^ 64
+pub runs : (rows : List Row) (i n : ℕ) (plan : List ℕ) (earlier : List model.Row) → Marks plan earlier → n + 2 * length rows < 2 ^ 64
     → Does i n plan earlier rows (checkRows i rows (Fine n, plan))
 unfolding checkRows
 runs [] i n plan earlier g h = ran-none i n plan earlier (g .long)

@@ -4,8 +4,8 @@ use mathlib.Core.List.{List}
 use Prim.Native.Nat.{ℕ, _*_, _≤_, _<_}
 use borrow.Author.Tests.{ne-eqb, eq-eqb, lt-ltb, le-ltb}
 use lib.ListN.{length}
-use Rattle.paper.specs.Refusals.{fine, refuse, badPlan, tooLarge, noRoom}
-use Rattle.paper.specs.Writer.{Row, rowWords, imageLength}
+use Rattle.model.specs.Refusals.{fine, refuse, badPlan, tooLarge, noRoom}
+use Rattle.model.specs.Writer.{Row, rowWords, imageLength}
 use Rattle.writer.specs.Kept.{sizesVerdict}
 
 module _ (rs : List Row) (payload : List ℕ) (room : ℕ) where

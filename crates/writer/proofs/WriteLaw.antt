@@ -7,10 +7,10 @@ use native.Mathlib.Omega.{arith}
 use borrow.Author.Tests.{ltb-false}
 use lib.Dec.{ltb, lit<}
 use lib.ListN.{length, getD, replicate, length-replicate}
-use Rattle.paper.specs.Refusals.{Verdict, tooManyRegions, _then_, refuseIf}
-use Rattle.paper.specs.Writer as paper
-use Rattle.paper.specs.Writer.{regions, kindAmong, rowsVerdict, planVerdict, planImage, writeAs, write}
-use Rattle.laws.proofs.PlanLaw.{RowsOK, rows-ok}
+use Rattle.model.specs.Refusals.{Verdict, tooManyRegions, _then_, refuseIf}
+use Rattle.model.specs.Writer as model
+use Rattle.model.specs.Writer.{regions, kindAmong, rowsVerdict, planVerdict, planImage, writeAs, write}
+use Rattle.lemmas.proofs.PlanLaw.{RowsOK, rows-ok}
 use Rattle.writer.specs.declared.plan.Row.{Row}
 use Rattle.writer.specs.declared.plan.Checked.{Checked}
 use Rattle.writer.specs.declared.plan.Checked.the-variants.{Fine, Refused}
@@ -37,7 +37,7 @@ unpacked r k f =
 all-unpacked : (rs : List Row) → RowsOK (asPlan rs) → rowsOf (packs rs) ≡ asPlan rs
 unfolding rowsOf asPlan
 all-unpacked [] o = refl
-all-unpacked (r ∷ rs) (RowsOK.cons k f n o) = ap₂ (λ (x : paper.Row) (l : List paper.Row). x ∷ l) (unpacked r k f) (all-unpacked rs o)
+all-unpacked (r ∷ rs) (RowsOK.cons k f n o) = ap₂ (λ (x : model.Row) (l : List model.Row). x ∷ l) (unpacked r k f) (all-unpacked rs o)
 
 low-packed : (rs : List Row) → RowsOK (asPlan rs) → (i : ℕ) → kindIn (getD (packs rs) i 0) < 0x8000
 unfolding asPlan
@@ -52,13 +52,13 @@ length-plan (r ∷ rs) = ap suc (length-plan rs)
 
 -- ---- the whole plan
 
-none-seen : Marks (replicate 1536 0) []
+none-entriesFor : Marks (replicate 1536 0) []
 unfolding kindAmong
-none-seen = record { seen = no-marks; long = length-replicate {A = ℕ} 1536 0 }
+none-entriesFor = record { entriesFor = no-marks; long = length-replicate {A = ℕ} 1536 0 }
 
 module _ (rows : List Row) (state : Checked) (kept : List ℕ) (few : length rows * 8 < 2 ^ 63) (e : (state, kept) ≡ checkRows 0 rows (Fine 0, replicate 1536 0)) where
   ran : Ran 0 0 (replicate 1536 0) [] rows state kept
-  ran = subst (λ (a : Checked × List ℕ). Ran 0 0 (replicate 1536 0) [] rows (a .0) (a .1)) (sym e) (runs rows 0 0 (replicate 1536 0) [] none-seen (omega (arith, few)))
+  ran = subst (λ (a : Checked × List ℕ). Ran 0 0 (replicate 1536 0) [] rows (a .0) (a .1)) (sym e) (runs rows 0 0 (replicate 1536 0) [] none-entriesFor (omega (arith, few)))
 
   module _ (n : ℕ) (f : state ≡ Fine n) where
     ok : RowsOK (asPlan rows)
@@ -87,24 +87,24 @@ module _ (rows : List Row) (state : Checked) (kept : List ℕ) (few : length row
 
   -- what write_plan answers is the paper's answer
   module _ (payload : List ℕ) (room : ℕ) where
-    abbrev rs : List paper.Row
+    abbrev rs : List model.Row
     rs = rowsOf (keptRows kept (length rows))
 
-    abbrev toWrite : Verdict → paper.Written
+    abbrev toWrite : Verdict → model.Written
     toWrite v = writeAs (v then refuseIf (ltb 1024 (regions (asPlan rows))) tooManyRegions (regions (asPlan rows)) then sizesVerdict (asPlan rows) payload room) (planImage (asPlan rows) payload)
 
     write-is : write (asPlan rows) payload room ≡ toWrite (rowsVerdict 0 [] (asPlan rows))
     unfolding write planVerdict sizesVerdict
     write-is = refl
 
-    abbrev toAnswer : Checked → paper.Written
+    abbrev toAnswer : Checked → model.Written
     toAnswer s = writeAs (checkedVerdict s rs payload room) (planImage rs payload)
 
     fine-is : (n : ℕ) → state ≡ Fine n → (t : Bool) → ltb 1024 n ≡ t
         → writeAs (refuseIf t tooManyRegions n then sizesVerdict rs payload room) (planImage rs payload)
         ≡ writeAs (refuseIf t tooManyRegions (regions (asPlan rows)) then sizesVerdict (asPlan rows) payload room) (planImage (asPlan rows) payload)
-    fine-is n f true h = ap (paper.refusedPlan tooManyRegions) (count-is n f)
-    fine-is n f false h = ap (λ (l : List paper.Row). writeAs (sizesVerdict l payload room) (planImage l payload)) (rows-are n f (ltb-false 1024 n h))
+    fine-is n f true h = ap (model.refusedPlan tooManyRegions) (count-is n f)
+    fine-is n f false h = ap (λ (l : List model.Row). writeAs (sizesVerdict l payload room) (planImage l payload)) (rows-are n f (ltb-false 1024 n h))
 
     state-is : (s : Checked) → state ≡ s → toAnswer s ≡ write (asPlan rows) payload room
     unfolding checkedVerdict
@@ -119,5 +119,5 @@ module _ (rows : List Row) (state : Checked) (kept : List ℕ) (few : length row
       → (asWritten r ≡ answerOf (write (asPlan rows) payload (length out))) × (after ≡ bytesAfter (write (asPlan rows) payload (length out)) out)
   answered-is payload out a = (
     a .answer ∙ ap answerOf (state-is payload (length out) state refl),
-    a .bytes ∙ ap (λ (w : paper.Written). bytesAfter w out) (state-is payload (length out) state refl),
+    a .bytes ∙ ap (λ (w : model.Written). bytesAfter w out) (state-is payload (length out) state refl),
   )

@@ -3,17 +3,17 @@ use mathlib.Core.Path.{_≡_}
 use mathlib.Core.List.{List, [], _∷_, _++_}
 use Prim.Native.Nat.{ℕ}
 use lib.ListN.{length, drop}
-use Rattle.paper.specs.Refusals.{Verdict, fine, refuse}
-use Rattle.paper.specs.Writer as paper
+use Rattle.model.specs.Refusals.{Verdict, fine, refuse}
+use Rattle.model.specs.Writer as model
 use Rattle.error.specs.Refused.{numberOf, detailOf}
 use Rattle.writer.specs.declared.plan.Row.{Row}
 use Rattle.writer.specs.declared.sizes.WriteResult.{WriteResult}
 use Rattle.writer.specs.declared.sizes.WriteResult.the-variants.{Written, Refused}
 
-abbrev pub asRow : Row → paper.Row
+abbrev pub asRow : Row → model.Row
 asRow r = record { kind = r .kind; flags = r .flags; words = r .words }
 
-unfoldable pub asPlan : List Row → List paper.Row
+unfoldable pub asPlan : List Row → List model.Row
 asPlan [] = []
 asPlan (r ∷ rs) = asRow r ∷ asPlan rs
 
@@ -26,14 +26,14 @@ abbrev pub asWritten : WriteResult → WriteAnswer
 asWritten (Written n) = wrote n
 asWritten (Refused r) = refused (numberOf r) (detailOf r)
 
-abbrev pub answerOf : paper.Written → WriteAnswer
-answerOf (paper.image x) = wrote (length x)
-answerOf (paper.refusedPlan n d) = refused n d
+abbrev pub answerOf : model.Written → WriteAnswer
+answerOf (model.image x) = wrote (length x)
+answerOf (model.refusedPlan n d) = refused n d
 
 -- the image, and behind it the output's bytes as they were; or every byte as it was
-abbrev pub bytesAfter : paper.Written → List ℕ → List ℕ
-bytesAfter (paper.image x) out = x ++ drop (length x) out
-bytesAfter (paper.refusedPlan n d) out = out
+abbrev pub bytesAfter : model.Written → List ℕ → List ℕ
+bytesAfter (model.image x) out = x ++ drop (length x) out
+bytesAfter (model.refusedPlan n d) out = out
 
 -- ---- steps of code, for private contracts
 
@@ -43,6 +43,6 @@ answerAs fine n = wrote n
 answerAs (refuse n d) k = refused n d
 
 -- what a run says, of a plan with this verdict: its answer, and every byte of the output
-pub record Answered (v : Verdict) (rs : List paper.Row) (payload before : List ℕ) (r : WriteResult) (after : List ℕ) : Type 0 where
-  pub answer : asWritten r ≡ answerOf (paper.writeAs v (paper.planImage rs payload))
-  pub bytes : after ≡ bytesAfter (paper.writeAs v (paper.planImage rs payload)) before
+pub record Answered (v : Verdict) (rs : List model.Row) (payload before : List ℕ) (r : WriteResult) (after : List ℕ) : Type 0 where
+  pub answer : asWritten r ≡ answerOf (model.writeAs v (model.planImage rs payload))
+  pub bytes : after ≡ bytesAfter (model.writeAs v (model.planImage rs payload)) before

@@ -6,7 +6,7 @@ use lib.Dec.{ltb}
 use lib.Bits.{bitOr}
 use lib.ListN.{getD, set}
 use Rattle.bits.specs.Bit.{bit}
-use Rattle.paper.specs.Layout.{hasParity}
+use Rattle.model.specs.Layout.{hasParity}
 use Rattle.error.specs.declared.Refusal.the-variants.{BadPlan, DuplicateRegion}
 use Rattle.writer.specs.declared.plan.Row.{Row}
 use Rattle.writer.specs.declared.plan.Checked.{Checked}

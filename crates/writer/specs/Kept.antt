@@ -5,8 +5,8 @@ use mathlib.Core.List.{List, [], _∷_, _++_}
 use Prim.Native.Nat.{ℕ, _*_, _/_, _%_, _≤_, _<_}
 use lib.Dec.{eqb, ltb}
 use lib.ListN.{length, getD, take, drop}
-use Rattle.paper.specs.Refusals.{Verdict, badPlan, tooManyRegions, tooLarge, noRoom, _then_, refuseIf}
-use Rattle.paper.specs.Writer.{Row, rowEntries, planeEntries, entriesBytes, regions, rowWords, imageLength}
+use Rattle.model.specs.Refusals.{Verdict, badPlan, tooManyRegions, tooLarge, noRoom, _then_, refuseIf}
+use Rattle.model.specs.Writer.{Row, rowEntries, planeEntries, entriesBytes, regions, rowWords, imageLength}
 use Rattle.error.specs.Refused.{asVerdict}
 use Rattle.writer.specs.declared.plan.Checked.{Checked}
 use Rattle.writer.specs.declared.plan.Checked.the-variants.{Fine, Refused}

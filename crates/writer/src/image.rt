@@ -2,9 +2,9 @@
 ghost use mathlib.Core.Path.{_≡_};
 ghost use Prim.Native.Nat.{ℕ, _+_, _*_, _≤_, _<_};
 ghost use lib.ListN.{length, getD};
-ghost use Rattle.paper.specs.Bytes.{thrice};
-ghost use Rattle.paper.specs.Writer.{prologueBytes, rowWords, planesWords, rowEntry, planeEntry, rowEntries, planeEntries, entriesBytes, planesBytes, planImage};
-ghost use Rattle.paper.specs.Writer as paper;
+ghost use Rattle.model.specs.Bytes.{thrice};
+ghost use Rattle.model.specs.Writer.{prologueBytes, rowWords, planesWords, rowEntry, planeEntry, rowEntries, planeEntries, entriesBytes, planesBytes, planImage};
+ghost use Rattle.model.specs.Writer as model;
 ghost use Rattle.writer.specs.Answers.{Answered};
 ghost use Rattle.writer.specs.Kept.{kindIn, rowOf, rowsOf, directoryBytes, Low, keptRows, Kept, Sized, sizesVerdict, checkedVerdict};
 ghost use Rattle.put.specs.Put.{Put};
@@ -58,7 +58,7 @@ pub(crate) fn write_plan(
 
 // The same of rows that are fine and few.
 fn write_rows(rows: &[u64], regions: usize, payload: &[u8], out: &mut [u8]) -> WriteResult
-    requires { ⌜ (length (now rows) ≤ 1024) × (regions ≤ 1024) × (regions ≡ paper.regions (rowsOf (now rows))) × Low (now rows) ⌝ }
+    requires { ⌜ (length (now rows) ≤ 1024) × (regions ≤ 1024) × (regions ≡ model.regions (rowsOf (now rows))) × Low (now rows) ⌝ }
     ensures { λ r. ⌜ Answered (sizesVerdict (rowsOf (now (rows .entry))) (now (payload .entry)) (length (now (out .entry))))
         (rowsOf (now (rows .entry))) (now (payload .entry)) (now (out .entry)) r (now (out .exit)) ⌝ }
 {

@@ -1,7 +1,7 @@
 // The writer: an image of a plan, rows beside one payload. (FORMAT 9)
 ghost use mathlib.Core.Path.{_≡_};
 ghost use lib.ListN.{length};
-ghost use Rattle.paper.specs.Writer as paper;
+ghost use Rattle.model.specs.Writer as model;
 ghost use Rattle.writer.specs.Answers.{asPlan, asWritten, answerOf, bytesAfter};
 
 mod image;
@@ -20,8 +20,8 @@ pub use sizes::WriteResult;
 // This is the one function that holds a `&[Row]`, since its proof is by hand: each row goes to `check_row` by value, and what is
 // kept of them to `write_plan`.
 pub fn write(rows: &[Row], payload: &[u8], out: &mut [u8]) -> WriteResult
-    ensures { λ r. ⌜ (asWritten r ≡ answerOf (paper.write (asPlan (now (rows .entry))) (now (payload .entry)) (length (now (out .entry)))))
-        × (now (out .exit) ≡ bytesAfter (paper.write (asPlan (now (rows .entry))) (now (payload .entry)) (length (now (out .entry)))) (now (out .entry))) ⌝ }
+    ensures { λ r. ⌜ (asWritten r ≡ answerOf (model.write (asPlan (now (rows .entry))) (now (payload .entry)) (length (now (out .entry)))))
+        × (now (out .exit) ≡ bytesAfter (model.write (asPlan (now (rows .entry))) (now (payload .entry)) (length (now (out .entry)))) (now (out .entry))) ⌝ }
 {
     let mut plan = empty_plan();
     let mut checked = Checked::Fine(0);

@@ -1,7 +1,7 @@
 // The parts of an image, put at a place each: a prologue, an entry, a plane. (FORMAT 9)
 ghost use Prim.Native.Nat.{_+_, _*_, _≤_};
 ghost use lib.ListN.{length};
-ghost use Rattle.paper.specs.Writer.{planeWords, entryBytes, prologueStart, prologueBytes, checks, planeBytes};
+ghost use Rattle.model.specs.Writer.{planeWords, entryBytes, prologueStart, prologueBytes, checks, planeBytes};
 ghost use Rattle.writer.specs.Kept.{wordsIn, rowOf};
 ghost use Rattle.put.specs.Put.{Put};
 ghost use Rattle.layout.specs.Regions.{asEntry};

@@ -2,8 +2,8 @@
 ghost use mathlib.Core.Path.{_≡_};
 ghost use Prim.Native.Nat.{_%_, _^_};
 ghost use lib.ListN.{replicate};
-ghost use Rattle.paper.specs.Layout.{hasParity};
-ghost use Rattle.paper.specs.Writer.{flagged, planeWords};
+ghost use Rattle.model.specs.Layout.{hasParity};
+ghost use Rattle.model.specs.Writer.{flagged, planeWords};
 ghost use Rattle.writer.specs.Kept.{kindIn, flagsIn, wordsIn, rowOf};
 ghost use Rattle.writer.specs.Checking.{badRow, marked, withMark, withRow, packedRow, regionsOf, checkRow, planAfter};
 use ecc::ECC_KIND_BIT;

@@ -2,8 +2,8 @@
 ghost use mathlib.Core.Path.{_≡_};
 ghost use Prim.Native.Nat.{_*_, _≤_};
 ghost use lib.ListN.{length};
-ghost use Rattle.paper.specs.Writer.{rowWords, planesWords, imageLength};
-ghost use Rattle.paper.specs.Writer as paper;
+ghost use Rattle.model.specs.Writer.{rowWords, planesWords, imageLength};
+ghost use Rattle.model.specs.Writer as model;
 ghost use Rattle.writer.specs.Answers.{asWritten, answerAs};
 ghost use Rattle.writer.specs.Kept.{rowsOf, sizesVerdict};
 use super::plan::is_protected;
@@ -51,7 +51,7 @@ fn planes_words(rows: &[u64]) -> usize
 
 // What is left to refuse once the rows are fine and few: the payload's length, the image's, the room for it.
 pub(crate) fn check_sizes(rows: &[u64], regions: usize, payload: &[u8], room: usize) -> WriteResult
-    requires { ⌜ (length (now rows) ≤ 1024) × (regions ≤ 1024) × (regions ≡ paper.regions (rowsOf (now rows))) ⌝ }
+    requires { ⌜ (length (now rows) ≤ 1024) × (regions ≤ 1024) × (regions ≡ model.regions (rowsOf (now rows))) ⌝ }
     ensures { λ r. ⌜ asWritten r ≡ answerAs (sizesVerdict (rowsOf (now (rows .entry))) (now (payload .entry)) room) (imageLength (rowsOf (now (rows .entry)))) ⌝ }
 {
     let words = row_words(rows);

@@ -5,9 +5,9 @@ use native.Mathlib.Omega.{arith}
 use borrow.Author.Needs.{needs}
 use denote.Ref.{now}
 use lib.ListN.{length, drop}
-use Rattle.paper.specs.Crc.{allOnes, sent, serialR, Crc32, crc32}
-use Rattle.paper.proofs.CrcRegister.{byte-turn, bytes-done}
-use Rattle.paper.proofs.CrcDivision.{crc-is-802-3}
+use Rattle.model.specs.Crc.{allOnes, sent, serialR, Crc32, crc32}
+use Rattle.model.proofs.CrcRegister.{byte-turn, bytes-done}
+use Rattle.model.proofs.CrcDivision.{crc-is-802-3}
 use Rattle.crc.proofs.crc32.Statement.{statement}
 use Rattle.crc.proofs.crc32.Tie as tie
 

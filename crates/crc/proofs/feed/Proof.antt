@@ -2,8 +2,8 @@
 use mathlib.Core.Path.{_≡_, sym, ap, _∙_}
 use Prim.Native.Nat.{_+_, _-_, _≤_}
 use borrow.Author.Needs.{needs}
-use Rattle.paper.specs.Crc.{bitsLow, serialR}
-use Rattle.paper.proofs.CrcRegister.{run, run-serial, run-turn, run-done}
+use Rattle.model.specs.Crc.{bitsLow, serialR}
+use Rattle.model.proofs.CrcRegister.{run, run-serial, run-turn, run-done}
 use Rattle.crc.proofs.feed.Statement.{statement}
 use Rattle.crc.proofs.feed.Tie as tie
 

@@ -5,7 +5,7 @@ use Prim.Native.Nat.{_/_}
 use lib.Bits.{bitXor, xor-zero-r}
 use Rattle.bits.specs.Linear.{pick}
 use Rattle.bits.proofs.BitLaw.{low-on, low-off}
-use Rattle.paper.specs.Crc.{POLY, stepR}
+use Rattle.model.specs.Crc.{POLY, stepR}
 use Rattle.crc.proofs.low_bit_step.Statement.{statement}
 use Rattle.crc.proofs.low_bit_step.Tie as tie
 

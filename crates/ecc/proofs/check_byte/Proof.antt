@@ -14,19 +14,19 @@ use lib.Pow.{shr-shr, field, mod-mod-pow}
 use lib.ListN.{length, getD, take, drop}
 use lib.Seq.{drop-cons, getD-take}
 use Rattle.bits.specs.Bit.{bit, isOne}
-use Rattle.bits.specs.Linear.{syn, pick}
+use Rattle.bits.specs.Linear.{xorColumns, pick}
 use Rattle.bits.proofs.BitLaw.{xor-assoc, bit-zero}
-use Rattle.paper.specs.Parity.{columns, checkOf}
+use Rattle.model.specs.Parity.{columns, checkOf}
 use Rattle.ecc.proofs.check_byte.Statement.{statement}
 use Rattle.ecc.proofs.check_byte.Tie as tie
 
 -- one column and the rest
 step : (cs : List ℕ) (w i : ℕ) → i < length cs
-    → syn (drop i cs) (w / 2 ^ i) ≡ bitXor (pick (bit (w / 2 ^ i) 0) (getD cs i 0)) (syn (drop (i + 1) cs) (w / 2 ^ (i + 1)))
-unfolding syn
+    → xorColumns (drop i cs) (w / 2 ^ i) ≡ bitXor (pick (bit (w / 2 ^ i) 0) (getD cs i 0)) (xorColumns (drop (i + 1) cs) (w / 2 ^ (i + 1)))
+unfolding xorColumns
 step cs w i h =
-    ap (λ (l : List ℕ). syn l (w / 2 ^ i)) (drop-cons cs i 0 h)
-    ∙ ap₂ (λ (x : ℕ) (l : List ℕ). bitXor (pick (bit (w / 2 ^ i) 0) (getD cs i 0)) (syn l x)) (shr-shr w i 1)
+    ap (λ (l : List ℕ). xorColumns l (w / 2 ^ i)) (drop-cons cs i 0 h)
+    ∙ ap₂ (λ (x : ℕ) (l : List ℕ). bitXor (pick (bit (w / 2 ^ i) 0) (getD cs i 0)) (xorColumns l x)) (shr-shr w i 1)
     (ap (λ (k : ℕ). drop k cs) (sym (add-one i)))
 
 -- bit i, taken out of its byte
@@ -54,8 +54,8 @@ module _ (w i : ℕ) where
 
 -- a turn: the column at i goes into s where bit i is set
 turn : (w s s′ i : ℕ) → i < 64 → s′ ≡ bitXor s (pick (bit (w / 2 ^ i) 0) (getD columns i 0))
-    → bitXor s (syn (drop i (take 64 columns)) (w / 2 ^ i)) ≡ checkOf w
-    → bitXor s′ (syn (drop (i + 1) (take 64 columns)) (w / 2 ^ (i + 1))) ≡ checkOf w
+    → bitXor s (xorColumns (drop i (take 64 columns)) (w / 2 ^ i)) ≡ checkOf w
+    → bitXor s′ (xorColumns (drop (i + 1) (take 64 columns)) (w / 2 ^ (i + 1))) ≡ checkOf w
 unfolding columns
 turn w s s′ i h e inv =
     ap (λ (x : ℕ). bitXor x rest) (e ∙ ap (λ (x : ℕ). bitXor s (pick (bit (w / 2 ^ i) 0) x)) (sym (getD-take 64 columns i 0 h)))
@@ -63,18 +63,18 @@ turn w s s′ i h e inv =
     ∙ ap (bitXor s) (sym (step (take 64 columns) w i h)) ∙ inv
   where
     rest : ℕ
-    rest = syn (drop (i + 1) (take 64 columns)) (w / 2 ^ (i + 1))
+    rest = xorColumns (drop (i + 1) (take 64 columns)) (w / 2 ^ (i + 1))
 
 abbrev Inv-loop : tie.InvT-loop
 Inv-loop «data» table s₀ i₀ s i =
-    (i ≤ 64) × (bitXor s (syn (drop i (take 64 columns)) («data» / 2 ^ i)) ≡ checkOf «data»)
+    (i ≤ 64) × (bitXor s (xorColumns (drop i (take 64 columns)) («data» / 2 ^ i)) ≡ checkOf «data»)
 
 abbrev μ-loop : tie.MeasureT-loop
 μ-loop «data» table s₀ i₀ s i = 64 - i
 
 loop-holds : tie.Need-loop-holds Inv-loop μ-loop
 unfolding checkOf
-loop-holds c = (search needs, ap (syn (take 64 columns)) (div-one (c .args .«data»)))
+loop-holds c = (search needs, ap (xorColumns (take 64 columns)) (div-one (c .args .«data»)))
 
 loop-again : tie.Need-loop-again Inv-loop μ-loop
 unfolding columns
@@ -91,12 +91,12 @@ loop-again c =
     )
 
 returns : tie.Need-returns Inv-loop μ-loop
-unfolding syn columns
+unfolding xorColumns columns
 returns c =
     let a = c .before in
     let e : a .loop .i ≡ 64 = omega arith in
     sym (xor-zero-r (a .loop .s))
-    ∙ ap (λ (k : ℕ). bitXor (a .loop .s) (syn (drop k (take 64 columns)) (a .before .args .«data» / 2 ^ k))) (sym e)
+    ∙ ap (λ (k : ℕ). bitXor (a .loop .s) (xorColumns (drop k (take 64 columns)) (a .before .args .«data» / 2 ^ k))) (sym e)
     ∙ a .loop .inv .1
 
 pub check-byte-spec : {M : Type 1} → statement M

@@ -8,8 +8,8 @@ use native.Mathlib.Decide.{ℕ-discrete}
 use borrow.Author.Needs.{needs}
 use lib.Bits.{bitOr}
 use lib.ListN.{getD}
-use Rattle.paper.specs.Parity.{columns, find}
-use Rattle.paper.proofs.ParityLaw.{find-column, find-none, columns-differ}
+use Rattle.model.specs.Parity.{columns, find}
+use Rattle.model.proofs.ParityLaw.{find-column, find-none, columns-differ}
 use Rattle.ecc.specs.Answers.{placeIn}
 use Rattle.ecc.proofs.column_of.Statement.{statement}
 use Rattle.ecc.proofs.column_of.Tie as tie

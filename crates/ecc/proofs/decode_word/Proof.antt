@@ -3,7 +3,7 @@ use mathlib.Core.Path.{ap, _∙_}
 use Prim.Native.Nat.{ℕ}
 use borrow.Author.Needs.{needs}
 use lib.Bits.{bitXor}
-use Rattle.paper.specs.Parity.{classOf, syndrome, decode, outcomeAs, outcome}
+use Rattle.model.specs.Parity.{classOf, syndrome, decode, outcomeAs, outcome}
 use Rattle.ecc.proofs.decode_word.Statement.{statement}
 use Rattle.ecc.proofs.decode_word.Tie as tie
 

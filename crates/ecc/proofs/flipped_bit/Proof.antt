@@ -6,14 +6,14 @@ use native.Mathlib.Omega.{arith}
 use borrow.Author.Needs.{needs}
 use borrow.Author.Tests.{ne-eqb, lt-ltb}
 use lib.Count.{ones}
-use Rattle.paper.specs.Parity.{columns, find, isOdd, beyond, flippedAt, classOf}
-use Rattle.paper.proofs.ParityLaw.{column-found}
+use Rattle.model.specs.Parity.{columns, find, isOdd, uncorrectable, flippedAt, classOf}
+use Rattle.model.proofs.ParityLaw.{column-found}
 use Rattle.ecc.specs.Answers.{placeIn, classOfBit}
 use Rattle.ecc.proofs.flipped_bit.Statement.{statement}
 use Rattle.ecc.proofs.flipped_bit.Tie as tie
 
 module _ (s : ℕ) (f : s ≡ 0 → ⊥) where
-  is-even : ones s % 2 ≡ 0 → classOf s ≡ beyond
+  is-even : ones s % 2 ≡ 0 → classOf s ≡ uncorrectable
   unfolding classOf isOdd
   is-even e = rw (ne-eqb s 0 f, e)
 

@@ -2,7 +2,7 @@
 use mathlib.Core.Path.{sym}
 use native.Mathlib.Nat.{min-eq-left, min-eq-right}
 use native.Mathlib.Omega.{arith}
-use Rattle.paper.specs.Scan.{sliceWords}
+use Rattle.model.specs.Scan.{sliceWords}
 use Rattle.ecc.proofs.plane_words.Statement.{statement}
 use Rattle.ecc.proofs.plane_words.Tie as tie
 

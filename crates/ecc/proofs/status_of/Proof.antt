@@ -8,7 +8,7 @@ use borrow.Author.Tests.{lt-ltb, le-ltb}
 use lib.Dec.{lit<}
 use lib.Bits.{bitXor}
 use lib.Pow.{shl-exact}
-use Rattle.paper.specs.Parity.{classOf, flipWord, outcomeAs, cleanWord, correctedWord, uncorrectableWord}
+use Rattle.model.specs.Parity.{classOf, flipWord, outcomeAs, cleanWord, correctedWord, uncorrectableWord}
 use Rattle.ecc.specs.Answers.{classOfBit}
 use Rattle.ecc.proofs.status_of.Statement.{statement}
 use Rattle.ecc.proofs.status_of.Tie as tie
@@ -23,8 +23,8 @@ module _ (w s : ℕ) where
     is-fixed : i < 72 → correctedWord (flipWord i w) ≡ outcomeAs (classOf s) w
     is-fixed h = rw (e, lt-ltb i 72 h)
 
-    is-lost : 72 ≤ i → uncorrectableWord ≡ outcomeAs (classOf s) w
-    is-lost h = rw (e, le-ltb i 72 h)
+    counts-uncorrectable : 72 ≤ i → uncorrectableWord ≡ outcomeAs (classOf s) w
+    counts-uncorrectable h = rw (e, le-ltb i 72 h)
 
 in-word : (i w : ℕ) → i < 64 → bitXor w ((1 * 2 ^ i) % 2 ^ 64) ≡ flipWord i w
 unfolding flipWord
@@ -53,7 +53,7 @@ returns-4 : tie.Need-returns-4
 returns-4 c =
     let b = c .before .before .flipped-bit in
     let g = c .before .before .before .before .args in
-    is-lost (g .«data») (g .syndrome) (b .result) (b .ensures .0) (c .if3 .left)
+    counts-uncorrectable (g .«data») (g .syndrome) (b .result) (b .ensures .0) (c .if3 .left)
 
 pub status-of-spec : {M : Type 1} → statement M
 status-of-spec = tie.close (tie.spec returns (λ c κs. c .if1 .left) (λ c. search needs) returns-2 returns-3 returns-4)

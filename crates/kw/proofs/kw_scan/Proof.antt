@@ -3,10 +3,10 @@ use mathlib.Core.Path.{_≡_, ap, _∙_}
 use mathlib.Core.List.{[], _∷_}
 use Prim.Native.Nat.{ℕ}
 use denote.Ref.{now}
-use Rattle.paper.specs.Refusals.{fine}
-use Rattle.paper.specs.Layout.{count}
-use Rattle.paper.specs.Parse.{Parsed, parseVerdict}
-use Rattle.paper.specs.Scan.{scanIn, scan}
+use Rattle.model.specs.Refusals.{fine}
+use Rattle.model.specs.Layout.{count}
+use Rattle.model.specs.Parse.{Parsed, parseVerdict}
+use Rattle.model.specs.Scan.{scanIn, scan}
 use Rattle.view.specs.Answers.{asParsed}
 use Rattle.view.proofs.AnswersLaw.{parsed-fine, parsed-count}
 use Rattle.kw.specs.Numbers.{refusalNumber, reportNumbers, scanNumbers}

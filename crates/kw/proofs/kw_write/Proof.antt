@@ -39,7 +39,7 @@ use denote.Triple.Spec.{Meets, tripleOf}
 use denote.Triple.Table.{entered, cited}
 use denote.Triple.Walked.{says, Stays, stay-none-slice, gave-slice, gave-ref, walkOf, goes-none-slice, goes-gave-slice, goes-gave-ref, Walks, ends-at, walked, walk-meets}
 use denote.Exit.{yes}
-use Rattle.paper.specs.Writer as paper
+use Rattle.model.specs.Writer as model
 use Rattle.writer.specs.declared.plan.Row.{Row}
 use Rattle.writer.specs.declared.sizes.WriteResult.{WriteResult}
 use Rattle.writer.specs.Answers.{asPlan, asWritten, answerOf, bytesAfter}
@@ -156,8 +156,8 @@ module _ {M : Type 1} (𝓤 : URA M) (H : Heap 𝓤) (A : Atoms 𝓤) (W : Given
   abbrev ansTok : Item 𝓤
   ansTok = ‵ (flft κ₃ q₃) ⊛ ‵ ftrue
 
-  abbrev written : paper.Written
-  written = paper.write (asPlan ys) ps (length xs)
+  abbrev written : model.Written
+  written = model.write (asPlan ys) ps (length xs)
 
   -- ---- `writer::write`
   abbrev Wrote : WriteResult → List ℕ → Type 0

@@ -6,7 +6,7 @@ use Prim.Native.Nat.{ℕ}
 use borrow.Author.Needs.{needs}
 use lib.ListN.{getD}
 use Rattle.bits.specs.Bit.{num}
-use Rattle.paper.specs.Scan.{Report}
+use Rattle.model.specs.Scan.{Report}
 use Rattle.scan.specs.Answers.{asScan}
 use Rattle.kw.specs.Numbers.{reportNumbers}
 use Rattle.kw.proofs.Told.{yes-no}

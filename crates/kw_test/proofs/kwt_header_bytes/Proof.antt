@@ -1,15 +1,15 @@
 -- `kw_test::kwt_header_bytes` meets its contract. Assumes nothing.
 use borrow.Author.Needs.{needs}
-use Rattle.layout.specs.Sizes.{asPaper}
+use Rattle.layout.specs.Sizes.{asModel}
 use Rattle.kw_test.proofs.Told.{told}
 use Rattle.kw_test.proofs.kwt_header_bytes.Statement.{statement}
 use Rattle.kw_test.proofs.kwt_header_bytes.Tie as tie
 
 returns : tie.Need-returns
-returns c = told asPaper (c .before .before .before .before .header-bytes .ensures) (c .before .before .n .given .1)
+returns c = told asModel (c .before .before .before .before .header-bytes .ensures) (c .before .before .n .given .1)
 
 returns-2 : tie.Need-returns-2
-returns-2 c = told asPaper (c .before .before .before .header-bytes .ensures) (c .before .enum-told .given .1)
+returns-2 c = told asModel (c .before .before .before .header-bytes .ensures) (c .before .enum-told .given .1)
 
 pub kwt-header-bytes-spec : {M : Type 1} → statement M
 kwt-header-bytes-spec =

@@ -1,15 +1,15 @@
 -- `kw_test::kwt_u64_at` meets its contract. Assumes nothing.
 use borrow.Author.Needs.{needs}
-use Rattle.scalar.specs.Answers.{asPaper64}
+use Rattle.scalar.specs.Answers.{asModel64}
 use Rattle.kw_test.proofs.Told.{told}
 use Rattle.kw_test.proofs.kwt_u64_at.Statement.{statement}
 use Rattle.kw_test.proofs.kwt_u64_at.Tie as tie
 
 returns : tie.Need-returns
-returns c = told asPaper64 (c .before .before .before .before .u64-at .ensures) (c .before .before .v .given .1)
+returns c = told asModel64 (c .before .before .before .before .u64-at .ensures) (c .before .before .v .given .1)
 
 returns-2 : tie.Need-returns-2
-returns-2 c = told asPaper64 (c .before .before .before .u64-at .ensures) (c .before .enum-told .given .1)
+returns-2 c = told asModel64 (c .before .before .before .u64-at .ensures) (c .before .enum-told .given .1)
 
 pub kwt-u64-at-spec : {M : Type 1} → statement M
 kwt-u64-at-spec =

@@ -5,7 +5,7 @@ use Prim.Native.Nat.{_+_, _*_, _^_}
 use native.Mathlib.Omega.{arith}
 use borrow.Author.Needs.{needs}
 use borrow.Author.Tests.{lt-ltb, le-ltb}
-use Rattle.paper.specs.Layout.{headerLength, headerBytes}
+use Rattle.model.specs.Layout.{headerLength, headerBytes}
 use Rattle.layout.proofs.header_bytes.Statement.{statement}
 use Rattle.layout.proofs.header_bytes.Tie as tie
 

@@ -3,7 +3,7 @@ use Prim.Native.Nat.{_+_, _^_}
 use native.Mathlib.Omega.{arith}
 use borrow.Author.Needs.{needs}
 use borrow.Author.Tests.{lt-ltb, le-ltb}
-use Rattle.paper.specs.Layout.{wordsFor}
+use Rattle.model.specs.Layout.{wordsFor}
 use Rattle.layout.proofs.words_for.Statement.{statement}
 use Rattle.layout.proofs.words_for.Tie as tie
 

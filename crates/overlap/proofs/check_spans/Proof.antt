@@ -4,7 +4,7 @@ use Prim.Native.Nat.{max, ℕ, suc, _+_, _-_, _≤_}
 use native.Mathlib.Omega.{arith}
 use denote.Ref.{now}
 use lib.ListN.{length, set, length-set}
-use Rattle.paper.specs.Views.{seen}
+use Rattle.model.specs.Views.{entriesFor}
 use Rattle.view.specs.Answers.{asHeader}
 use Rattle.overlap.specs.Spans.{Spans}
 use Rattle.overlap.proofs.ApartLaw.{leftFrom, left-start, left-gone, left-header, left-region, left-next, left-done}
@@ -13,7 +13,7 @@ use Rattle.overlap.proofs.check_spans.Statement.{statement}
 use Rattle.overlap.proofs.check_spans.Tie as tie
 
 abbrev Inv-loop : tie.InvT-loop
-Inv-loop bytes header spans₀ n high₀ i₀ spans high i = (i ≤ header .«region_count») × (length spans ≡ 2048) × (leftFrom (asHeader header) (seen (header .«region_count») bytes) i ≡ leftFrom (asHeader header) (seen (header .«region_count») bytes) 0) × Spans (seen (header .«region_count») bytes) i spans high
+Inv-loop bytes header spans₀ n high₀ i₀ spans high i = (i ≤ header .«region_count») × (length spans ≡ 2048) × (leftFrom (asHeader header) (entriesFor (header .«region_count») bytes) i ≡ leftFrom (asHeader header) (entriesFor (header .«region_count») bytes) 0) × Spans (entriesFor (header .«region_count») bytes) i spans high
 
 abbrev μ-loop : tie.MeasureT-loop
 μ-loop bytes header spans₀ n high₀ i₀ spans high i = header .«region_count» - i
@@ -28,7 +28,7 @@ returns c =
     let g = c .before .before .before .before .before .before .args in
     let h = asHeader (g .header) in
     let x = now (g .bytes) in
-    sym (left-gone h x (l .i) (r .result) (r .ensures) (c .enum-told .given .1)) ∙ l .inv .2 ∙ left-start h (seen (h .regions) x)
+    sym (left-gone h x (l .i) (r .result) (r .ensures) (c .enum-told .given .1)) ∙ l .inv .2 ∙ left-start h (entriesFor (h .regions) x)
 
 returns-2 : tie.Need-returns-2 Inv-loop μ-loop
 returns-2 c =
@@ -39,7 +39,7 @@ returns-2 c =
     let g = c .before .before .before .before .before .before .before .before .before .before .before .args in
     let h = asHeader (g .header) in
     let x = now (g .bytes) in
-    let es = seen (h .regions) x in
+    let es = entriesFor (h .regions) x in
     sym (left-header h x (l .i) (r .result) (r .ensures) (f .0 .0) (f .1) (o .result) (o .ensures es (l .inv .3)) (c .enum-told2 .given .1)) ∙ l .inv .2 ∙ left-start h es
 
 returns-3 : tie.Need-returns-3 Inv-loop μ-loop
@@ -52,7 +52,7 @@ returns-3 c =
     let g = c .before .before .before .before .before .before .before .before .before .before .before .before .args in
     let h = asHeader (g .header) in
     let x = now (g .bytes) in
-    let es = seen (h .regions) x in
+    let es = entriesFor (h .regions) x in
     sym (left-region h x (l .i) (r .result) (r .ensures) (f .0 .0) (f .1) (o .result) (o .ensures es (l .inv .3)) (k .0 .0) (k .1)) ∙ l .inv .2 ∙ left-start h es
 
 loop-again : tie.Need-loop-again Inv-loop μ-loop
@@ -66,7 +66,7 @@ loop-again c =
     let g = c .before .before .before .before .before .before .before .before .before .before .before .before .before .before .args in
     let h = asHeader (g .header) in
     let x = now (g .bytes) in
-    let es = seen (h .regions) x in
+    let es = entriesFor (h .regions) x in
     let e : suc (l .i) ≡ l .i + 1 = omega arith in (
       omega arith,
       simp length-set (l .inv .1),
@@ -83,7 +83,7 @@ returns-4 c =
     let g = c .before .before .before .args in
     let h = asHeader (g .header) in
     let x = now (g .bytes) in
-    sym (left-done h x (l .i) (omega arith)) ∙ l .inv .2 ∙ left-start h (seen (h .regions) x)
+    sym (left-done h x (l .i) (omega arith)) ∙ l .inv .2 ∙ left-start h (entriesFor (h .regions) x)
 
 pub check-spans-spec : {M : Type 1} → statement M
 check-spans-spec =

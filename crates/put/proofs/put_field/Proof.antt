@@ -5,7 +5,7 @@ use Prim.Native.Nat.{ℕ, _+_, _≤_}
 use native.Mathlib.Omega.{arith}
 use borrow.Author.Needs.{needs}
 use lib.ListN.{length, take}
-use Rattle.paper.specs.Programs.{decimal}
+use Rattle.model.specs.Programs.{decimal}
 use Rattle.put.specs.Put.{Put}
 use Rattle.put.proofs.PutLaw.{put-two}
 use Rattle.put.proofs.DecimalLaw.{u64-digits, decimal-is}

@@ -1,12 +1,12 @@
 -- `scalar::u16_bytes` meets its contract. Assumes nothing.
 use mathlib.Core.Path.{refl}
 use borrow.Author.Needs.{needs}
-use Rattle.paper.specs.Bytes.{le}
+use Rattle.model.specs.Bytes.{leBytes}
 use Rattle.scalar.proofs.u16_bytes.Statement.{statement}
 use Rattle.scalar.proofs.u16_bytes.Tie as tie
 
 returns : tie.Need-returns
-unfolding le
+unfolding leBytes
 returns c = refl
 
 pub u16-bytes-spec : {M : Type 1} → statement M

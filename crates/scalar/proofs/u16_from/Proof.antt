@@ -1,7 +1,7 @@
 -- `scalar::u16_from` meets its contract. Each index is inside by the `requires`. Assumes nothing.
 use mathlib.Core.Path.{sym, _∙_}
 use borrow.Author.Needs.{needs}
-use Rattle.paper.proofs.BytesLaw.{places-2}
+use Rattle.model.proofs.BytesLaw.{places-2}
 use Rattle.scalar.proofs.u16_from.Statement.{statement}
 use Rattle.scalar.proofs.u16_from.Tie as tie
 

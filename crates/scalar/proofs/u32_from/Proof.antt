@@ -1,7 +1,7 @@
 -- `scalar::u32_from` meets its contract. Each index is inside by the `requires`. Assumes nothing.
 use mathlib.Core.Path.{sym, _∙_}
 use borrow.Author.Needs.{needs}
-use Rattle.paper.proofs.BytesLaw.{places-4}
+use Rattle.model.proofs.BytesLaw.{places-4}
 use Rattle.scalar.proofs.u32_from.Statement.{statement}
 use Rattle.scalar.proofs.u32_from.Tie as tie
 

@@ -3,7 +3,7 @@ use mathlib.Core.Path.{sym}
 use native.Mathlib.Omega.{arith}
 use borrow.Author.Needs.{needs}
 use denote.Ref.{now}
-use Rattle.paper.proofs.BytesLaw.{places-1}
+use Rattle.model.proofs.BytesLaw.{places-1}
 use Rattle.scalar.proofs.Asked.{nothing, inside, value}
 use Rattle.scalar.proofs.u8_at.Statement.{statement}
 use Rattle.scalar.proofs.u8_at.Tie as tie

@@ -3,7 +3,7 @@ use mathlib.Core.Path.{_≡_, refl, sym, ap, ap₂, _∙_, subst}
 use native.Mathlib.Omega.{arith}
 use borrow.Author.Needs.{needs}
 use denote.Ref.{now}
-use Rattle.paper.specs.Scan.{Report, classesAt}
+use Rattle.model.specs.Scan.{Report, classesAt}
 use Rattle.ecc.specs.Answers.{asReport}
 use Rattle.scan.specs.Runs.{pairsOf}
 use Rattle.scan.specs.Tally.{Totals, asTotals, marked, withReport, Bounded, Room}

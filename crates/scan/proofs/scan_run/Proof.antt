@@ -5,10 +5,10 @@ use Prim.Native.Nat.{ℕ, _+_, _*_}
 use native.Mathlib.Omega.{arith}
 use borrow.Author.Needs.{needs}
 use denote.Ref.{now}
-use Rattle.paper.specs.Bytes.{part}
+use Rattle.model.specs.Bytes.{part}
 use Rattle.ecc.specs.CheckTable.{sliceScanWith}
 use Rattle.ecc.proofs.CheckTableLaw.{table-scan}
-use Rattle.paper.proofs.ScanLaw.{slice-scan}
+use Rattle.model.proofs.ScanLaw.{slice-scan}
 use Rattle.scan.proofs.scan_run.Statement.{statement}
 use Rattle.scan.proofs.scan_run.Tie as tie
 

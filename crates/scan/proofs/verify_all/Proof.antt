@@ -5,8 +5,8 @@ use native.Mathlib.Omega.{arith}
 use borrow.Author.Needs.{needs}
 use denote.Ref.{now}
 use lib.ListN.{length, drop}
-use Rattle.paper.specs.Views.{seen, regionAt}
-use Rattle.paper.specs.Scan.{visitsOver, scanIn}
+use Rattle.model.specs.Views.{entriesFor, regionAt}
+use Rattle.model.specs.Scan.{visitsOver, scanIn}
 use Rattle.scan.specs.Runs.{visitsAt}
 use Rattle.scan.specs.Tally.{Totals, asTotals, noTotals, withVisits, Room}
 use Rattle.scan.proofs.TallyLaw.{room-start}
@@ -15,7 +15,7 @@ use Rattle.scan.proofs.verify_all.Statement.{statement}
 use Rattle.scan.proofs.verify_all.Tie as tie
 
 abbrev Inv-loop : tie.InvT-loop
-Inv-loop bytes header n table tally₀ i₀ tally i = (i ≤ n) × (tally .report .words ≤ i * 2 ^ 32) × Room 0 (asTotals tally .report) × (withVisits bytes (visitsOver (length bytes) (seen n bytes) (drop i (seen n bytes))) (asTotals tally) ≡ withVisits bytes (visitsOver (length bytes) (seen n bytes) (seen n bytes)) noTotals)
+Inv-loop bytes header n table tally₀ i₀ tally i = (i ≤ n) × (tally .report .words ≤ i * 2 ^ 32) × Room 0 (asTotals tally .report) × (withVisits bytes (visitsOver (length bytes) (entriesFor n bytes) (drop i (entriesFor n bytes))) (asTotals tally) ≡ withVisits bytes (visitsOver (length bytes) (entriesFor n bytes) (entriesFor n bytes)) noTotals)
 
 abbrev μ-loop : tie.MeasureT-loop
 μ-loop bytes header n table tally₀ i₀ tally i = n - i
@@ -26,7 +26,7 @@ loop-holds c =
     let g = c .before .before .before .before .args in
     let n = g .header .«region_count» in
     let x = now (g .bytes) in
-    (omega arith, omega (arith, ap (λ (t : Totals). t .report .words) e), room-start _ e, ap (withVisits x (visitsOver (length x) (seen n x) (seen n x))) e)
+    (omega arith, omega (arith, ap (λ (t : Totals). t .report .words) e), room-start _ e, ap (withVisits x (visitsOver (length x) (entriesFor n x) (entriesFor n x))) e)
 
 add-run-requires : tie.Need-add-run-requires Inv-loop μ-loop
 add-run-requires c κs =
@@ -46,8 +46,8 @@ loop-again c =
       omega arith,
       omega (arith, c .add-run .ensures .1 .0, l .inv .1, r .ensures .few),
       c .add-run .ensures .1 .1,
-      ap (withVisits x (visitsOver (length x) (seen n x) (drop (l .i + 1) (seen n x)))) (c .add-run .ensures .0 ∙ run-more x (visitsAt n x (l .i)) (r .result) t (r .ensures))
-          ∙ sym (more-next x (seen n x) (seen n x) (l .i) t) ∙ l .inv .3,
+      ap (withVisits x (visitsOver (length x) (entriesFor n x) (drop (l .i + 1) (entriesFor n x)))) (c .add-run .ensures .0 ∙ run-more x (visitsAt n x (l .i)) (r .result) t (r .ensures))
+          ∙ sym (more-next x (entriesFor n x) (entriesFor n x) (l .i) t) ∙ l .inv .3,
     )
 
 returns : tie.Need-returns Inv-loop μ-loop
@@ -59,7 +59,7 @@ returns c =
     let x = now (g .bytes) in
     let t = asTotals (l .tally) in
     c .scan-result .ensures
-    ∙ all-said x (visitsOver (length x) (seen n x) (seen n x)) t (sym (more-done x n (l .i) t (omega arith)) ∙ l .inv .3)
+    ∙ all-said x (visitsOver (length x) (entriesFor n x) (entriesFor n x)) t (sym (more-done x n (l .i) t (omega arith)) ∙ l .inv .3)
 
 pub verify-all-spec : {M : Type 1} → statement M
 verify-all-spec =

@@ -4,8 +4,8 @@ use native.Mathlib.Omega.{arith}
 use borrow.Author.Needs.{needs}
 use denote.Ref.{now}
 use lib.ListN.{length}
-use Rattle.paper.specs.Views.{seen}
-use Rattle.paper.specs.Scan.{classesAt, planeOf, visitWith, scanRegion}
+use Rattle.model.specs.Views.{entriesFor}
+use Rattle.model.specs.Scan.{classesAt, planeOf, visitWith, scanRegion}
 use Rattle.layout.specs.Regions.{asEntry}
 use Rattle.scan.specs.Runs.{pairsOf}
 use Rattle.scan.specs.Tally.{Totals, asTotals, noTotals, marked, withClasses, Room}
@@ -29,7 +29,7 @@ returns c =
     let r = c .before .before .before .before .run-with-plane in
     let g = c .before .before .before .before .before .before .before .before .args in
     let x = now (g .bytes) in
-    let vs = visitWith (asEntry (g .region)) (planeOf (length x) (seen (g .header .«region_count») x) (asEntry (g .region))) in
+    let vs = visitWith (asEntry (g .region)) (planeOf (length x) (entriesFor (g .header .«region_count») x) (asEntry (g .region))) in
     c .scan-result .ensures
     ∙ all-said x vs (asTotals (a .result))
     (a .ensures .0 ∙ ap (λ (t : Totals). withClasses (marked t (r .result .visited)) (classesAt x (pairsOf (r .result)))) (c .before .before .empty-tally .ensures)

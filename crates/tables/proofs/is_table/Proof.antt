@@ -2,7 +2,7 @@
 use Prim.Native.Nat.{_-_, _%_}
 use borrow.Author.Needs.{needs}
 use borrow.Author.Tests.{eq-eqb, ne-eqb}
-use Rattle.paper.specs.Views.{isTable}
+use Rattle.model.specs.Views.{isTable}
 use Rattle.tables.proofs.is_table.Statement.{statement}
 use Rattle.tables.proofs.is_table.Tie as tie
 

@@ -3,7 +3,7 @@ use mathlib.Core.Path.{refl, sym, ap, _∙_}
 use borrow.Author.Needs.{needs}
 use denote.Ref.{now}
 use lib.ListN.{length}
-use Rattle.paper.specs.Views.{partIn}
+use Rattle.model.specs.Views.{partIn}
 use Rattle.tables.specs.Answers.{asPlace}
 use Rattle.tables.specs.Parts.{startIn}
 use Rattle.tables.proofs.PartLaw.{cut, carried}

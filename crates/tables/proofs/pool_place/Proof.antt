@@ -2,7 +2,7 @@
 use Prim.Native.Nat.{_+_, _-_}
 use borrow.Author.Needs.{needs}
 use borrow.Author.Tests.{le-leb, lt-leb}
-use Rattle.paper.specs.Views.{poolRange}
+use Rattle.model.specs.Views.{poolRange}
 use Rattle.tables.proofs.pool_place.Statement.{statement}
 use Rattle.tables.proofs.pool_place.Tie as tie
 

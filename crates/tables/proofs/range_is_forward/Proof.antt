@@ -2,7 +2,7 @@
 use Prim.Native.Nat.{_-_}
 use borrow.Author.Needs.{needs}
 use borrow.Author.Tests.{lt-ltb, le-ltb}
-use Rattle.paper.specs.Views.{rangeIsForward}
+use Rattle.model.specs.Views.{rangeIsForward}
 use Rattle.tables.proofs.range_is_forward.Statement.{statement}
 use Rattle.tables.proofs.range_is_forward.Tie as tie
 

@@ -2,7 +2,7 @@
 use Prim.Native.Nat.{_-_}
 use borrow.Author.Needs.{needs}
 use borrow.Author.Tests.{eq-eqb, ne-eqb}
-use Rattle.paper.specs.Views.{recordCount}
+use Rattle.model.specs.Views.{recordCount}
 use Rattle.tables.proofs.record_count.Statement.{statement}
 use Rattle.tables.proofs.record_count.Tie as tie
 

@@ -3,7 +3,7 @@ use Prim.Native.Nat.{_+_, _-_, _*_, _<_}
 use native.Mathlib.Omega.{arith}
 use borrow.Author.Needs.{needs}
 use borrow.Author.Tests.{lt-ltb, le-ltb, le-leb, lt-leb}
-use Rattle.paper.specs.Views.{recordRange}
+use Rattle.model.specs.Views.{recordRange}
 use Rattle.tables.proofs.Within.{fits-in, fits-not}
 use Rattle.tables.proofs.record_place.Statement.{statement}
 use Rattle.tables.proofs.record_place.Tie as tie

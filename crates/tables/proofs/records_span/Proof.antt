@@ -4,7 +4,7 @@ use Prim.Native.Nat.{_+_, _-_, _*_, _%_}
 use native.Mathlib.Omega.{arith}
 use borrow.Author.Needs.{needs}
 use borrow.Author.Tests.{eq-eqb, ne-eqb, lt-ltb, le-ltb}
-use Rattle.paper.specs.Views.{tableSpan, tableVerdict}
+use Rattle.model.specs.Views.{tableSpan, tableVerdict}
 use Rattle.tables.proofs.records_span.Statement.{statement}
 use Rattle.tables.proofs.records_span.Tie as tie
 

@@ -3,7 +3,7 @@ use mathlib.Core.Path.{refl, sym, ap, _∙_}
 use borrow.Author.Needs.{needs}
 use denote.Ref.{now}
 use lib.ListN.{length}
-use Rattle.paper.specs.Views.{partOf}
+use Rattle.model.specs.Views.{partOf}
 use Rattle.layout.specs.Regions.{asEntry}
 use Rattle.tables.specs.Answers.{asSpan}
 use Rattle.tables.specs.Parts.{startOf}

@@ -4,7 +4,7 @@ use Prim.Native.Nat.{_+_, _-_, _*_}
 use native.Mathlib.Omega.{arith}
 use borrow.Author.Needs.{needs}
 use borrow.Author.Tests.{lt-ltb, le-ltb}
-use Rattle.paper.specs.Views.{bytesSpan}
+use Rattle.model.specs.Views.{bytesSpan}
 use Rattle.tables.proofs.region_span.Statement.{statement}
 use Rattle.tables.proofs.region_span.Tie as tie
 

@@ -51,7 +51,7 @@ use denote.Triple.Spec.{Meets, tripleOf}
 use denote.Triple.Table.{entered, cited}
 use denote.Triple.Walked.{says, Stays, stay-none-slice, gave-slice, walkOf, goes-none-slice, goes-gave-slice, Walks, ends-at, walked, walk-meets}
 use denote.Exit.{yes}
-use Rattle.paper.specs.Writer as paper
+use Rattle.model.specs.Writer as model
 use Rattle.writer.specs.declared.plan.Row.{Row}
 use Rattle.writer.specs.declared.plan.Checked.{Checked}
 use Rattle.writer.specs.declared.plan.Checked.the-variants.{Fine}
@@ -219,7 +219,7 @@ module _ {M : Type 1} (𝓤 : URA M) (H : Heap 𝓤) (A : Atoms 𝓤) (W : Given
   z l δ zs = record { ptr = (l, 0); name = δ; now = zs }
 
   abbrev Done : WriteResult → List ℕ → Type 0
-  Done r ws = (asWritten r ≡ answerOf (paper.write (asPlan ys) ps (length xs))) × (ws ≡ bytesAfter (paper.write (asPlan ys) ps (length xs)) xs)
+  Done r ws = (asWritten r ≡ answerOf (model.write (asPlan ys) ps (length xs))) × (ws ≡ bytesAfter (model.write (asPlan ys) ps (length xs)) xs)
 
   -- ---- `empty_plan`
   abbrev to-empty-plan : EmptyPlan 𝓤 H A mem run .Ghost
@@ -245,7 +245,7 @@ module _ {M : Type 1} (𝓤 : URA M) (H : Heap 𝓤) (A : Atoms 𝓤) (W : Given
       move ! (2 ∷ 0 ∷ []) $ fjoin ! $ move ! (1 ∷ 0 ∷ []) $ join ! $ frame ! $ done !
 
   -- ---- `write_plan`
-  abbrev kept : At ys → List paper.Row
+  abbrev kept : At ys → List model.Row
   kept t = rowsOf (keptRows (t .zs) n)
 
   abbrev Answers : At ys → WriteResult → List ℕ → Type 0

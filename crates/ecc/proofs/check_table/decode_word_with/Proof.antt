@@ -3,7 +3,7 @@ use mathlib.Core.Path.{ap, _∙_}
 use Prim.Native.Nat.{ℕ}
 use borrow.Author.Needs.{needs}
 use lib.Bits.{bitXor}
-use Rattle.paper.specs.Parity.{classOf, outcomeAs}
+use Rattle.model.specs.Parity.{classOf, outcomeAs}
 use Rattle.ecc.specs.CheckTable.{decodeWith, outcomeWith}
 use Rattle.ecc.proofs.check_table.decode_word_with.Statement.{statement}
 use Rattle.ecc.proofs.check_table.decode_word_with.Tie as tie

@@ -6,7 +6,7 @@ use native.Mathlib.Numerals.{add-one}
 use native.Mathlib.Omega.{arith}
 use borrow.Author.Needs.{needs}
 use lib.Bits.{bitXor}
-use Rattle.paper.specs.Bytes.{at}
+use Rattle.model.specs.Bytes.{at}
 use Rattle.ecc.specs.CheckTable.{entryAt, Filled}
 use Rattle.ecc.proofs.CheckTableLaw.{bit-count, bit-fits, twice, put}
 use Rattle.ecc.proofs.check_table.fill_bit.Statement.{statement}

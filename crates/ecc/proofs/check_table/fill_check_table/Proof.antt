@@ -2,7 +2,7 @@
 use mathlib.Core.Path.{_≡_, refl, subst}
 use Prim.Native.Nat.{ℕ, _-_, _*_, _≤_}
 use native.Mathlib.Omega.{arith}
-use Rattle.paper.specs.Parity.{columns}
+use Rattle.model.specs.Parity.{columns}
 use Rattle.ecc.specs.CheckTable.{Filled}
 use Rattle.ecc.proofs.CheckTableLaw.{empty, all-filled}
 use Rattle.ecc.proofs.check_table.fill_check_table.Statement.{statement}

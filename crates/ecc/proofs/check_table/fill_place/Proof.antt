@@ -4,7 +4,7 @@ use mathlib.Core.List.{List}
 use Prim.Native.Nat.{ℕ, _+_, _-_, _*_, _^_, _≤_}
 use native.Mathlib.Omega.{arith}
 use denote.Ref.{now}
-use Rattle.paper.specs.Bytes.{at}
+use Rattle.model.specs.Bytes.{at}
 use Rattle.ecc.specs.CheckTable.{Filled}
 use Rattle.ecc.proofs.CheckTableLaw.{first, put}
 use Rattle.ecc.proofs.check_table.fill_place.Statement.{statement}

@@ -5,9 +5,9 @@ use Prim.Native.Nat.{ℕ, _-_, _≤_, _<_}
 use native.Mathlib.Omega.{arith}
 use borrow.Author.Needs.{needs}
 use denote.Ref.{now}
-use Rattle.paper.specs.Parity.{classOf}
-use Rattle.paper.specs.Scan.{isCorrected, isLost, sliceWords}
-use Rattle.paper.proofs.ParityLaw.{class-zero}
+use Rattle.model.specs.Parity.{classOf}
+use Rattle.model.specs.Scan.{isCorrected, isUncorrectable, sliceWords}
+use Rattle.model.proofs.ParityLaw.{class-zero}
 use Rattle.ecc.proofs.PlaneLaw.{syndrome-read, Counted, turn, scanned}
 use Rattle.ecc.proofs.check_table.plane_scan_with.Statement.{statement}
 use Rattle.ecc.proofs.check_table.plane_scan_with.Tie as tie
@@ -15,7 +15,7 @@ use Rattle.ecc.proofs.check_table.plane_scan_with.Tie as tie
 abbrev Inv-loop : tie.InvT-loop
 Inv-loop table parity «data» words corrected₀ uncorrectable₀ w₀ corrected uncorrectable w =
     (w ≤ words) × (corrected ≤ w) × (uncorrectable ≤ w)
-    × Counted isCorrected table «data» parity w corrected × Counted isLost table «data» parity w uncorrectable
+    × Counted isCorrected table «data» parity w corrected × Counted isUncorrectable table «data» parity w uncorrectable
 
 abbrev μ-loop : tie.MeasureT-loop
 μ-loop table parity «data» words corrected₀ uncorrectable₀ w₀ corrected uncorrectable w = words - w
@@ -42,7 +42,7 @@ loop-again c =
       omega (arith, t .2, o .ensures .2),
       omega (arith, t .3),
       turn table x y isCorrected w (l .loop .corrected) (c .if1 .corrected) h (omega (arith, t .2, o .ensures .0, ap isCorrected d)) (l .loop .inv .3),
-      turn table x y isLost w (l .loop .uncorrectable) (c .if1 .uncorrectable) h (omega (arith, t .3, o .ensures .1, ap isLost d)) (l .loop .inv .4),
+      turn table x y isUncorrectable w (l .loop .uncorrectable) (c .if1 .uncorrectable) h (omega (arith, t .3, o .ensures .1, ap isUncorrectable d)) (l .loop .inv .4),
     ))
     (λ t.
     let z = sym d ∙ ap classOf (t .0 .left) ∙ class-zero in (
@@ -50,7 +50,7 @@ loop-again c =
       omega arith,
       omega arith,
       turn table x y isCorrected w (l .loop .corrected) (c .if1 .corrected) h (omega (arith, t .1, ap isCorrected z)) (l .loop .inv .3),
-      turn table x y isLost w (l .loop .uncorrectable) (c .if1 .uncorrectable) h (omega (arith, t .2, ap isLost z)) (l .loop .inv .4),
+      turn table x y isUncorrectable w (l .loop .uncorrectable) (c .if1 .uncorrectable) h (omega (arith, t .2, ap isUncorrectable z)) (l .loop .inv .4),
     ))
     (c .if1 .came)
 
@@ -65,7 +65,7 @@ returns c =
     let e : l .loop .w ≡ p .plane-words .result = omega arith in
     scanned table x y (p .plane-words .result) (l .loop .corrected) (l .loop .uncorrectable) (p .plane-words .ensures .0)
     (subst (λ (w : ℕ). Counted isCorrected table x y w (l .loop .corrected)) e (l .loop .inv .3))
-    (subst (λ (w : ℕ). Counted isLost table x y w (l .loop .uncorrectable)) e (l .loop .inv .4))
+    (subst (λ (w : ℕ). Counted isUncorrectable table x y w (l .loop .uncorrectable)) e (l .loop .inv .4))
 
 pub plane-scan-with-spec : {M : Type 1} → statement M
 plane-scan-with-spec =

@@ -1,7 +1,7 @@
 -- `kw_test::scans::kwt_verify_region` meets its contract. Assumes nothing.
 use mathlib.Core.Path.{_≡_, ap, _∙_}
 use denote.Ref.{now}
-use Rattle.paper.specs.Scan.{scanRegion}
+use Rattle.model.specs.Scan.{scanRegion}
 use Rattle.scan.specs.Answers.{asScan}
 use Rattle.kw_test.specs.Reader.{scanAnswer, entryWith}
 use borrow.Author.Needs.{needs}

@@ -27,32 +27,32 @@ use denote.Enum.Laws as EL
 use denote.Struct.Laws as LL
 use denote.Triple.Entry.{onEntry}
 use denote.Triple.Walked.{walkOf}
-use Rattle.paper.specs.Scan.{sliceWord, sliceScan}
+use Rattle.model.specs.Scan.{sliceWord, sliceScan}
 use Rattle.ecc.specs.Answers.{asWord, asReport}
 use Rattle.kw_test.specs.Held.{planeAnswer}
-use Rattle.held.proofs.plane.EccPlane as T
-use Rattle.held.proofs.plane.EccPlane.Laws as T′
+use Rattle.borrowed.proofs.plane.EccPlane as T
+use Rattle.borrowed.proofs.plane.EccPlane.Laws as T′
 use Rattle.ecc.proofs.PlaneWord as Word
 use Rattle.ecc.proofs.PlaneWord.Laws as Word′
 use Rattle.ecc.proofs.EccReport as Report
 use Rattle.ecc.proofs.EccReport.Laws as Report′
 use Rattle.kw_test.proofs.Joined.{plane-is}
-use Rattle.held.proofs.plane.EccPlane.new as made
-use Rattle.held.proofs.plane.EccPlane.new.Symbol as made-def
-use Rattle.held.proofs.plane.EccPlane.new.Symbol.{name as #made}
-use Rattle.held.proofs.plane.EccPlane.new.Met as made-thm
-use Rattle.held.proofs.plane.EccPlane.bytes as whole
-use Rattle.held.proofs.plane.EccPlane.bytes.Symbol as whole-def
-use Rattle.held.proofs.plane.EccPlane.bytes.Symbol.{name as #whole}
-use Rattle.held.proofs.plane.EccPlane.bytes.Met as whole-thm
-use Rattle.held.proofs.plane.EccPlane.word as told
-use Rattle.held.proofs.plane.EccPlane.word.Symbol as told-def
-use Rattle.held.proofs.plane.EccPlane.word.Symbol.{name as #told}
-use Rattle.held.proofs.plane.EccPlane.word.Met as told-thm
-use Rattle.held.proofs.plane.EccPlane.scan as scanned
-use Rattle.held.proofs.plane.EccPlane.scan.Symbol as scanned-def
-use Rattle.held.proofs.plane.EccPlane.scan.Symbol.{name as #scanned}
-use Rattle.held.proofs.plane.EccPlane.scan.Met as scanned-thm
+use Rattle.borrowed.proofs.plane.EccPlane.new as made
+use Rattle.borrowed.proofs.plane.EccPlane.new.Symbol as made-def
+use Rattle.borrowed.proofs.plane.EccPlane.new.Symbol.{name as #made}
+use Rattle.borrowed.proofs.plane.EccPlane.new.Met as made-thm
+use Rattle.borrowed.proofs.plane.EccPlane.bytes as whole
+use Rattle.borrowed.proofs.plane.EccPlane.bytes.Symbol as whole-def
+use Rattle.borrowed.proofs.plane.EccPlane.bytes.Symbol.{name as #whole}
+use Rattle.borrowed.proofs.plane.EccPlane.bytes.Met as whole-thm
+use Rattle.borrowed.proofs.plane.EccPlane.word as told
+use Rattle.borrowed.proofs.plane.EccPlane.word.Symbol as told-def
+use Rattle.borrowed.proofs.plane.EccPlane.word.Symbol.{name as #told}
+use Rattle.borrowed.proofs.plane.EccPlane.word.Met as told-thm
+use Rattle.borrowed.proofs.plane.EccPlane.scan as scanned
+use Rattle.borrowed.proofs.plane.EccPlane.scan.Symbol as scanned-def
+use Rattle.borrowed.proofs.plane.EccPlane.scan.Symbol.{name as #scanned}
+use Rattle.borrowed.proofs.plane.EccPlane.scan.Met as scanned-thm
 use Rattle.kw_test.proofs.values.plane_answer as put
 use Rattle.kw_test.proofs.values.plane_answer.Symbol as put-def
 use Rattle.kw_test.proofs.values.plane_answer.Symbol.{name as #put}
@@ -61,9 +61,9 @@ use Rattle.kw_test.proofs.values.plane_facts.Key.{name as #me}
 use Rattle.kw_test.proofs.values.plane_facts as me
 use Rattle.kw_test.proofs.values.plane_facts.Statement as stated
 use Rattle.kw_test.proofs.values.plane_facts.Code as code
-use Rattle.held.proofs.Asks.{asks-told}
-use Rattle.held.proofs.Parts.{bytesVal, number, slice}
-use Rattle.held.proofs.Shown.{hs, Post, leaves-with, shown, C, Λ}
+use Rattle.borrowed.proofs.Asks.{asks-told}
+use Rattle.borrowed.proofs.Parts.{bytesVal, number, slice}
+use Rattle.borrowed.proofs.Shown.{hs, Post, leaves-with, shown, C, Λ}
 
 module _ {M : Type 1} (𝓤 : URA M) (H : Heap 𝓤) (𝓜 : Model 𝓤 H) (𝓖 : GhostRules 𝓤 H) (𝓡 : Running 𝓤 H 𝓜) (κs : Lfts 2) (qs : Shares 2) (x : RefT (List ℕ)) (y : RefT (List ℕ)) (i : ℕ) where
   abbrev A : Atoms 𝓤
@@ -109,12 +109,12 @@ module _ {M : Type 1} (𝓤 : URA M) (H : Heap 𝓤) (𝓜 : Model 𝓤 H) (𝓖
       alloc1 ! (λ l₀. alloc1 ! (λ l₁. alloc1 ! (λ l₂. alloc1 ! (λ l₃. alloc1 ! (λ l₄. alloc1 ! (λ l₅. alloc1 ! (λ l₆. alloc1 ! (λ l₇. alloc1 ! (λ l₈. alloc1 ! (λ l₉. alloc1 ! (λ l₁₀. alloc0 ! $ params1 ! $ pass1 ! (init ! 18 refl (slice 𝓤 H 𝓜 𝓖 (named 0) (κs .0) x x-is .typed)) $ pass1 ! (init ! 16 refl (slice 𝓤 H 𝓜 𝓖 (named 1) (κs .1 .0) y y-is .typed)) $ pass1 ! (init ! 14 refl (number 𝓤 H 𝓜 𝓖 w64 i i-is .typed)) $ pass0 ! $
       move ! (22 ∷ []) $ use1 W (Tok ⊛ Lft ⊛ ‵ (ShrSlice (named 0) (κs .0) u8 .own x (bytesVal x ∷ [])) ⊛ ‵ (ShrSlice (named 1) (κs .1 .0) u8 .own y (bytesVal y ∷ []))) enters $ split ! $ move ! (1 ∷ []) $ split ! $ move ! (1 ∷ []) $ split ! $
       nothing ! $ move ! (1 ∷ 0 ∷ []) $ fjoin ! $ move ! (3 ∷ 0 ∷ []) $
-      asks-told 𝓤 H 𝓜 𝓖 𝓡 code.env (made.signature .result) (made.signature .params) (made.ended .kept) (made.clauses 𝓤 H A (𝓜 .mem) (𝓡 .run)) #made made-def.routine code.calls-held·plane·EccPlane·new (made-thm.met 𝓤 H 𝓜 𝓖 𝓡) (κs .0, tt) (qs .0, tt) (x, tt) (bytesVal x ∷ [], tt) tt (id⊢ 𝓤 _)
+      asks-told 𝓤 H 𝓜 𝓖 𝓡 code.env (made.signature .result) (made.signature .params) (made.ended .kept) (made.clauses 𝓤 H A (𝓜 .mem) (𝓡 .run)) #made made-def.routine code.calls-borrowed·plane·EccPlane·new (made-thm.met 𝓤 H 𝓜 𝓖 𝓡) (κs .0, tt) (qs .0, tt) (x, tt) (bytesVal x ∷ [], tt) tt (id⊢ 𝓤 _)
       (λ d. d .parity ≡ x) (λ d ws. id⊢ 𝓤 _) (bytesVal x ∷ []) refl (and-then ! (load ! (from ! (stop !)) (look ! 21 refl)) (no-more !)) (λ d du d-is e.
       land ! (from ! (stop !)) (init ! 16 refl (LL.lawful (T.the-type αᵉ) (T′.the-laws αᵉ) 𝓤 H A W .typed d _ d-is .0)) $
       assigns ! (of-opd ! (load ! (from ! (stop !)) (look ! 16 refl))) (from ! (stop !)) (init ! 12 refl (LL.lawful (T.the-type αᵉ) (T′.the-laws αᵉ) 𝓤 H A W .typed d _ d-is .0)) $ nothing ! $
       move ! (1 ∷ []) $ use1 W (‵ (T.the-row α .own d (du ∷ [])) ⊛ ‵ (T.the-row α .own d (du ∷ []))) (LL.copy (T.the-type α) (T′.the-copy α) 𝓤 H A W .twice d (du ∷ [])) $ split ! $ move ! (0 ∷ 2 ∷ []) $ fjoin ! $ move ! (2 ∷ 0 ∷ []) $
-      asks-told 𝓤 H 𝓜 𝓖 𝓡 code.env (whole.signature .result) (whole.signature .params) (whole.ended .kept) (whole.clauses 𝓤 H A (𝓜 .mem) (𝓡 .run)) #whole whole-def.routine code.calls-held·plane·EccPlane·bytes (whole-thm.met 𝓤 H 𝓜 𝓖 𝓡) (κs .0, tt) (qs .0, tt) (d, tt) (du ∷ [], tt) tt (id⊢ 𝓤 _)
+      asks-told 𝓤 H 𝓜 𝓖 𝓡 code.env (whole.signature .result) (whole.signature .params) (whole.ended .kept) (whole.clauses 𝓤 H A (𝓜 .mem) (𝓡 .run)) #whole whole-def.routine code.calls-borrowed·plane·EccPlane·bytes (whole-thm.met 𝓤 H 𝓜 𝓖 𝓡) (κs .0, tt) (qs .0, tt) (d, tt) (du ∷ [], tt) tt (id⊢ 𝓤 _)
       (λ w. w ≡ d .parity) (λ w ws. id⊢ 𝓤 _) (du ∷ []) refl (and-then ! (load ! (from ! (stop !)) (look ! 12 refl)) (no-more !)) (λ w wu w-is f.
       land ! (from ! (stop !)) (init ! 15 refl (shr-slice-lawful 𝓤 H A W erased (κs .0) u8 .typed w _ w-is .0)) $
       assigns ! (of-opd ! (load ! (from ! (stop !)) (look ! 17 refl))) (from ! (stop !)) (init ! 9 refl (LL.lawful (T.the-type αᵉ) (T′.the-laws αᵉ) 𝓤 H A W .typed d _ d-is .0)) $ nothing ! $
@@ -122,13 +122,13 @@ module _ {M : Type 1} (𝓤 : URA M) (H : Heap 𝓤) (𝓜 : Model 𝓤 H) (𝓖
       move ! (4 ∷ []) $ use1 W (‵ (ShrSlice (named 1) (κs .1 .0) u8 .own y (bytesVal y ∷ [])) ⊛ ‵ (ShrSlice (named 1) (κs .1 .0) u8 .own y (bytesVal y ∷ []))) (shr-slice-copy 𝓤 H A W (named 1) (κs .1 .0) u8 .twice y (bytesVal y ∷ [])) $ split ! $ move ! (0 ∷ 2 ∷ []) $ fjoin ! $
       move ! (4 ∷ []) $ use1 W (‵ (T.the-row α .own d (du ∷ [])) ⊛ ‵ (T.the-row α .own d (du ∷ []))) (LL.copy (T.the-type α) (T′.the-copy α) 𝓤 H A W .twice d (du ∷ [])) $ split ! $ move ! (0 ∷ 2 ∷ []) $ fjoin ! $
       move ! (4 ∷ 5 ∷ []) $ use2 W (raw (toks 𝓤 A 2 κs qs)) joined $ move ! (0 ∷ 1 ∷ []) $
-      asks-told 𝓤 H 𝓜 𝓖 𝓡 code.env (told.signature .result) (told.signature .params) (told.ended .kept) (told.clauses 𝓤 H A (𝓜 .mem) (𝓡 .run)) #told told-def.routine code.calls-held·plane·EccPlane·word (told-thm.met 𝓤 H 𝓜 𝓖 𝓡) κs qs (d, (y, (i, tt))) (du ∷ [], (bytesVal y ∷ [], (vint w64 i ∷ [], tt))) tt (id⊢ 𝓤 _)
+      asks-told 𝓤 H 𝓜 𝓖 𝓡 code.env (told.signature .result) (told.signature .params) (told.ended .kept) (told.clauses 𝓤 H A (𝓜 .mem) (𝓡 .run)) #told told-def.routine code.calls-borrowed·plane·EccPlane·word (told-thm.met 𝓤 H 𝓜 𝓖 𝓡) κs qs (d, (y, (i, tt))) (du ∷ [], (bytesVal y ∷ [], (vint w64 i ∷ [], tt))) tt (id⊢ 𝓤 _)
       (λ p. asWord p ≡ sliceWord (now y) (now (d .parity)) i) (λ p ws. id⊢ 𝓤 _) (du ∷ bytesVal y ∷ vint w64 i ∷ []) refl (and-then ! (load ! (from ! (stop !)) (look ! 8 refl)) (and-then ! (load ! (from ! (stop !)) (look ! 20 refl)) (and-then ! (load ! (from ! (stop !)) (look ! 18 refl)) (no-more !)))) (λ p pu p-is g.
       move ! (1 ∷ []) $ use1 W (Tok ⊛ Lft) parted $ split ! $
       land ! (from ! (stop !)) (init ! 12 refl (EL.lawful Word.the-type Word′.the-laws 𝓤 H A W tt .typed p _ p-is .0)) $
       assigns ! (of-opd ! (load ! (from ! (stop !)) (look ! 18 refl))) (from ! (stop !)) (init ! 6 refl (LL.lawful (T.the-type αᵉ) (T′.the-laws αᵉ) 𝓤 H A W .typed d _ d-is .0)) $ nothing ! $ move ! (5 ∷ 0 ∷ []) $ fjoin ! $
       move ! (4 ∷ 0 ∷ []) $ fjoin ! $ move ! (1 ∷ 2 ∷ []) $ use2 W (raw (toks 𝓤 A 2 κs qs)) joined $ move ! (0 ∷ 1 ∷ []) $
-      asks-told 𝓤 H 𝓜 𝓖 𝓡 code.env (scanned.signature .result) (scanned.signature .params) (scanned.ended .kept) (scanned.clauses 𝓤 H A (𝓜 .mem) (𝓡 .run)) #scanned scanned-def.routine code.calls-held·plane·EccPlane·scan (scanned-thm.met 𝓤 H 𝓜 𝓖 𝓡) κs qs (d, (y, tt)) (du ∷ [], (bytesVal y ∷ [], tt)) tt (id⊢ 𝓤 _)
+      asks-told 𝓤 H 𝓜 𝓖 𝓡 code.env (scanned.signature .result) (scanned.signature .params) (scanned.ended .kept) (scanned.clauses 𝓤 H A (𝓜 .mem) (𝓡 .run)) #scanned scanned-def.routine code.calls-borrowed·plane·EccPlane·scan (scanned-thm.met 𝓤 H 𝓜 𝓖 𝓡) κs qs (d, (y, tt)) (du ∷ [], (bytesVal y ∷ [], tt)) tt (id⊢ 𝓤 _)
       (λ q. asReport q ≡ sliceScan (now y) (now (d .parity))) (λ q ws. id⊢ 𝓤 _) (du ∷ bytesVal y ∷ []) refl (and-then ! (load ! (from ! (stop !)) (look ! 3 refl)) (and-then ! (load ! (from ! (stop !)) (look ! 19 refl)) (no-more !))) (λ q qu q-is h.
       move ! (1 ∷ []) $ use1 W (Tok ⊛ Lft) parted $ split ! $
       land ! (from ! (stop !)) (init ! 7 refl (LL.lawful Report.the-type Report′.the-laws 𝓤 H A W .typed q _ q-is .0)) $ nothing ! $ move ! (3 ∷ 0 ∷ []) $ fjoin ! $ move ! (3 ∷ 0 ∷ []) $ fjoin ! $ move ! (3 ∷ 0 ∷ []) $ fjoin ! $

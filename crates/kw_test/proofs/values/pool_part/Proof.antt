@@ -28,32 +28,32 @@ use denote.Enum.Laws as EL
 use denote.Struct.Laws as LL
 use denote.Triple.Entry.{onEntry}
 use denote.Triple.Walked.{walkOf}
-use Rattle.paper.specs.Views.{partIn, poolRange}
+use Rattle.model.specs.Views.{partIn, poolRange}
 use Rattle.tables.specs.Answers.{asPlace}
 use Rattle.tables.specs.Parts.{VeryPartIn}
 use Rattle.kw_test.specs.Reader.{partNumbers}
 use Rattle.kw_test.specs.Held.{partAnswer}
-use Rattle.held.proofs.pool.Pool as T
-use Rattle.held.proofs.pool.Pool.Laws as T′
+use Rattle.borrowed.proofs.pool.Pool as T
+use Rattle.borrowed.proofs.pool.Pool.Laws as T′
 use Rattle.tables.proofs.Place as Place
 use Rattle.tables.proofs.Place.Laws as Place′
 use Rattle.kw_test.proofs.Joined.{pool-is}
-use Rattle.held.proofs.pool.Pool.from_bytes as made
-use Rattle.held.proofs.pool.Pool.from_bytes.Symbol as made-def
-use Rattle.held.proofs.pool.Pool.from_bytes.Symbol.{name as #made}
-use Rattle.held.proofs.pool.Pool.from_bytes.Met as made-thm
-use Rattle.held.proofs.pool.Pool.bytes as whole
-use Rattle.held.proofs.pool.Pool.bytes.Symbol as whole-def
-use Rattle.held.proofs.pool.Pool.bytes.Symbol.{name as #whole}
-use Rattle.held.proofs.pool.Pool.bytes.Met as whole-thm
-use Rattle.held.proofs.pool.Pool.place as placed
-use Rattle.held.proofs.pool.Pool.place.Symbol as placed-def
-use Rattle.held.proofs.pool.Pool.place.Symbol.{name as #placed}
-use Rattle.held.proofs.pool.Pool.place.Met as placed-thm
-use Rattle.held.proofs.pool.Pool.slice as sliced
-use Rattle.held.proofs.pool.Pool.slice.Symbol as sliced-def
-use Rattle.held.proofs.pool.Pool.slice.Symbol.{name as #sliced}
-use Rattle.held.proofs.pool.Pool.slice.Met as sliced-thm
+use Rattle.borrowed.proofs.pool.Pool.from_bytes as made
+use Rattle.borrowed.proofs.pool.Pool.from_bytes.Symbol as made-def
+use Rattle.borrowed.proofs.pool.Pool.from_bytes.Symbol.{name as #made}
+use Rattle.borrowed.proofs.pool.Pool.from_bytes.Met as made-thm
+use Rattle.borrowed.proofs.pool.Pool.bytes as whole
+use Rattle.borrowed.proofs.pool.Pool.bytes.Symbol as whole-def
+use Rattle.borrowed.proofs.pool.Pool.bytes.Symbol.{name as #whole}
+use Rattle.borrowed.proofs.pool.Pool.bytes.Met as whole-thm
+use Rattle.borrowed.proofs.pool.Pool.place as placed
+use Rattle.borrowed.proofs.pool.Pool.place.Symbol as placed-def
+use Rattle.borrowed.proofs.pool.Pool.place.Symbol.{name as #placed}
+use Rattle.borrowed.proofs.pool.Pool.place.Met as placed-thm
+use Rattle.borrowed.proofs.pool.Pool.slice as sliced
+use Rattle.borrowed.proofs.pool.Pool.slice.Symbol as sliced-def
+use Rattle.borrowed.proofs.pool.Pool.slice.Symbol.{name as #sliced}
+use Rattle.borrowed.proofs.pool.Pool.slice.Met as sliced-thm
 use Rattle.kw_test.proofs.values.pool_answer as put
 use Rattle.kw_test.proofs.values.pool_answer.Symbol as put-def
 use Rattle.kw_test.proofs.values.pool_answer.Symbol.{name as #put}
@@ -62,9 +62,9 @@ use Rattle.kw_test.proofs.values.pool_part.Key.{name as #me}
 use Rattle.kw_test.proofs.values.pool_part as me
 use Rattle.kw_test.proofs.values.pool_part.Statement as stated
 use Rattle.kw_test.proofs.values.pool_part.Code as code
-use Rattle.held.proofs.Asks.{asks-told}
-use Rattle.held.proofs.Parts.{bytesVal, number, slice}
-use Rattle.held.proofs.Shown.{hs, Post, leaves-with, shown, C, Λ}
+use Rattle.borrowed.proofs.Asks.{asks-told}
+use Rattle.borrowed.proofs.Parts.{bytesVal, number, slice}
+use Rattle.borrowed.proofs.Shown.{hs, Post, leaves-with, shown, C, Λ}
 
 module _ {M : Type 1} (𝓤 : URA M) (H : Heap 𝓤) (𝓜 : Model 𝓤 H) (𝓖 : GhostRules 𝓤 H) (𝓡 : Running 𝓤 H 𝓜) (κs : Lfts 1) (qs : Shares 1) (x : RefT (List ℕ)) (o : ℕ) (n : ℕ) where
   abbrev A : Atoms 𝓤
@@ -100,23 +100,23 @@ module _ {M : Type 1} (𝓤 : URA M) (H : Heap 𝓤) (𝓜 : Model 𝓤 H) (𝓖
       qed W (raw Pre ∷ []) ∵ enter ! (C 𝓤 H 𝓜 𝓖 𝓡 code.env) (Λ 𝓤 H 𝓜 𝓖 𝓡 code.env) code.function (bytesVal x ∷ vint w32 o ∷ vint w32 n ∷ []) (Post 𝓤 H A W me.ended (me.clauses 𝓤 H A (𝓜 .mem) (𝓡 .run)) Y) $
       alloc1 ! (λ l₀. alloc1 ! (λ l₁. alloc1 ! (λ l₂. alloc1 ! (λ l₃. alloc1 ! (λ l₄. alloc1 ! (λ l₅. alloc1 ! (λ l₆. alloc1 ! (λ l₇. alloc1 ! (λ l₈. alloc1 ! (λ l₉. alloc1 ! (λ l₁₀. alloc0 ! $ params1 ! $ pass1 ! (init ! 18 refl (slice 𝓤 H 𝓜 𝓖 (named 0) (κs .0) x x-is .typed)) $ pass1 ! (init ! 16 refl (number 𝓤 H 𝓜 𝓖 w32 o o-is .typed)) $ pass1 ! (init ! 14 refl (number 𝓤 H 𝓜 𝓖 w32 n n-is .typed)) $ pass0 ! $
       move ! (22 ∷ []) $ use1 W (Tok ⊛ ‵ (ShrSlice (named 0) (κs .0) u8 .own x (bytesVal x ∷ []))) enters $ split ! $ nothing ! $ move ! (2 ∷ 0 ∷ []) $ fjoin ! $ move ! (1 ∷ 0 ∷ []) $
-      asks-told 𝓤 H 𝓜 𝓖 𝓡 code.env (made.signature .result) (made.signature .params) (made.ended .kept) (made.clauses 𝓤 H A (𝓜 .mem) (𝓡 .run)) #made made-def.routine code.calls-held·pool·Pool·from-bytes (made-thm.met 𝓤 H 𝓜 𝓖 𝓡) κs qs (x, tt) (bytesVal x ∷ [], tt) tt (id⊢ 𝓤 _)
+      asks-told 𝓤 H 𝓜 𝓖 𝓡 code.env (made.signature .result) (made.signature .params) (made.ended .kept) (made.clauses 𝓤 H A (𝓜 .mem) (𝓡 .run)) #made made-def.routine code.calls-borrowed·pool·Pool·from-bytes (made-thm.met 𝓤 H 𝓜 𝓖 𝓡) κs qs (x, tt) (bytesVal x ∷ [], tt) tt (id⊢ 𝓤 _)
       (λ d. d .bytes ≡ x) (λ d ws. id⊢ 𝓤 _) (bytesVal x ∷ []) refl (and-then ! (load ! (from ! (stop !)) (look ! 19 refl)) (no-more !)) (λ d du d-is e.
       land ! (from ! (stop !)) (init ! 14 refl (LL.lawful (T.the-type αᵉ) (T′.the-laws αᵉ) 𝓤 H A W .typed d _ d-is .0)) $
       assigns ! (of-opd ! (load ! (from ! (stop !)) (look ! 14 refl))) (from ! (stop !)) (init ! 10 refl (LL.lawful (T.the-type αᵉ) (T′.the-laws αᵉ) 𝓤 H A W .typed d _ d-is .0)) $ nothing ! $
       move ! (1 ∷ []) $ use1 W (‵ (T.the-row α .own d (du ∷ [])) ⊛ ‵ (T.the-row α .own d (du ∷ []))) (LL.copy (T.the-type α) (T′.the-copy α) 𝓤 H A W .twice d (du ∷ [])) $ split ! $ move ! (0 ∷ 2 ∷ []) $ fjoin ! $ move ! (2 ∷ 0 ∷ []) $
-      asks-told 𝓤 H 𝓜 𝓖 𝓡 code.env (whole.signature .result) (whole.signature .params) (whole.ended .kept) (whole.clauses 𝓤 H A (𝓜 .mem) (𝓡 .run)) #whole whole-def.routine code.calls-held·pool·Pool·bytes (whole-thm.met 𝓤 H 𝓜 𝓖 𝓡) κs qs (d, tt) (du ∷ [], tt) tt (id⊢ 𝓤 _)
+      asks-told 𝓤 H 𝓜 𝓖 𝓡 code.env (whole.signature .result) (whole.signature .params) (whole.ended .kept) (whole.clauses 𝓤 H A (𝓜 .mem) (𝓡 .run)) #whole whole-def.routine code.calls-borrowed·pool·Pool·bytes (whole-thm.met 𝓤 H 𝓜 𝓖 𝓡) κs qs (d, tt) (du ∷ [], tt) tt (id⊢ 𝓤 _)
       (λ w. w ≡ d .bytes) (λ w ws. id⊢ 𝓤 _) (du ∷ []) refl (and-then ! (load ! (from ! (stop !)) (look ! 10 refl)) (no-more !)) (λ w wu w-is f.
       land ! (from ! (stop !)) (init ! 13 refl (shr-slice-lawful 𝓤 H A W erased (κs .0) u8 .typed w _ w-is .0)) $
       assigns ! (of-opd ! (load ! (from ! (stop !)) (look ! 15 refl))) (from ! (stop !)) (init ! 7 refl (LL.lawful (T.the-type αᵉ) (T′.the-laws αᵉ) 𝓤 H A W .typed d _ d-is .0)) $ nothing ! $
       owned ! u32 (Is u32) (uint-makes 𝓤 H A W w32) n _ n-is $ fjoin ! $ owned ! u32 (Is u32) (uint-makes 𝓤 H A W w32) o _ o-is $ fjoin ! $
       move ! (3 ∷ []) $ use1 W (‵ (T.the-row α .own d (du ∷ [])) ⊛ ‵ (T.the-row α .own d (du ∷ []))) (LL.copy (T.the-type α) (T′.the-copy α) 𝓤 H A W .twice d (du ∷ [])) $ split ! $ move ! (0 ∷ 2 ∷ []) $ fjoin ! $ move ! (3 ∷ 0 ∷ []) $
-      asks-told 𝓤 H 𝓜 𝓖 𝓡 code.env (placed.signature .result) (placed.signature .params) (placed.ended .kept) (placed.clauses 𝓤 H A (𝓜 .mem) (𝓡 .run)) #placed placed-def.routine code.calls-held·pool·Pool·place (placed-thm.met 𝓤 H 𝓜 𝓖 𝓡) κs qs (d, (o, (n, tt))) (du ∷ [], (vint w32 o ∷ [], (vint w32 n ∷ [], tt))) tt (id⊢ 𝓤 _)
+      asks-told 𝓤 H 𝓜 𝓖 𝓡 code.env (placed.signature .result) (placed.signature .params) (placed.ended .kept) (placed.clauses 𝓤 H A (𝓜 .mem) (𝓡 .run)) #placed placed-def.routine code.calls-borrowed·pool·Pool·place (placed-thm.met 𝓤 H 𝓜 𝓖 𝓡) κs qs (d, (o, (n, tt))) (du ∷ [], (vint w32 o ∷ [], (vint w32 n ∷ [], tt))) tt (id⊢ 𝓤 _)
       (λ p. asPlace p ≡ poolRange (length (now (d .bytes))) o n) (λ p ws. id⊢ 𝓤 _) (du ∷ vint w32 o ∷ vint w32 n ∷ []) refl (and-then ! (load ! (from ! (stop !)) (look ! 7 refl)) (and-then ! (load ! (from ! (stop !)) (look ! 19 refl)) (and-then ! (load ! (from ! (stop !)) (look ! 17 refl)) (no-more !)))) (λ p pu p-is g.
       land ! (from ! (stop !)) (init ! 10 refl (EL.lawful Place.the-type Place′.the-laws 𝓤 H A W tt .typed p _ p-is .0)) $
       assigns ! (of-opd ! (load ! (from ! (stop !)) (look ! 16 refl))) (from ! (stop !)) (init ! 4 refl (LL.lawful (T.the-type αᵉ) (T′.the-laws αᵉ) 𝓤 H A W .typed d _ d-is .0)) $ nothing ! $
       owned ! u32 (Is u32) (uint-makes 𝓤 H A W w32) n _ n-is $ fjoin ! $ owned ! u32 (Is u32) (uint-makes 𝓤 H A W w32) o _ o-is $ fjoin ! $ move ! (3 ∷ 0 ∷ []) $ fjoin ! $ move ! (2 ∷ 0 ∷ []) $
-      asks-told 𝓤 H 𝓜 𝓖 𝓡 code.env (sliced.signature .result) (sliced.signature .params) (sliced.ended .kept) (sliced.clauses 𝓤 H A (𝓜 .mem) (𝓡 .run)) #sliced sliced-def.routine code.calls-held·pool·Pool·slice (sliced-thm.met 𝓤 H 𝓜 𝓖 𝓡) κs qs (d, (o, (n, tt))) (du ∷ [], (vint w32 o ∷ [], (vint w32 n ∷ [], tt))) tt (id⊢ 𝓤 _)
+      asks-told 𝓤 H 𝓜 𝓖 𝓡 code.env (sliced.signature .result) (sliced.signature .params) (sliced.ended .kept) (sliced.clauses 𝓤 H A (𝓜 .mem) (𝓡 .run)) #sliced sliced-def.routine code.calls-borrowed·pool·Pool·slice (sliced-thm.met 𝓤 H 𝓜 𝓖 𝓡) κs qs (d, (o, (n, tt))) (du ∷ [], (vint w32 o ∷ [], (vint w32 n ∷ [], tt))) tt (id⊢ 𝓤 _)
       (λ q. VeryPartIn (d .bytes) q (poolRange (length (now (d .bytes))) o n)) (λ q ws. id⊢ 𝓤 _) (du ∷ vint w32 o ∷ vint w32 n ∷ []) refl (and-then ! (load ! (from ! (stop !)) (look ! 3 refl)) (and-then ! (load ! (from ! (stop !)) (look ! 19 refl)) (and-then ! (load ! (from ! (stop !)) (look ! 17 refl)) (no-more !)))) (λ q qu q-is h.
       land ! (from ! (stop !)) (init ! 6 refl (shr-slice-lawful 𝓤 H A W erased (κs .0) u8 .typed q _ q-is .0)) $ nothing ! $ move ! (1 ∷ 0 ∷ []) $ fjoin ! $ move ! (2 ∷ 0 ∷ []) $ fjoin ! $ move ! (2 ∷ 0 ∷ []) $ fjoin ! $
       move ! (1 ∷ 0 ∷ []) $

@@ -27,27 +27,27 @@ use denote.Steps.{owned, nothing}
 use denote.Struct.Laws as LL
 use denote.Triple.Entry.{onEntry}
 use denote.Triple.Walked.{walkOf}
-use Rattle.paper.specs.Views.{recordCount, rangeIsForward}
+use Rattle.model.specs.Views.{recordCount, rangeIsForward}
 use Rattle.tables.specs.Parts.{PartAt}
 use Rattle.kw_test.specs.Held.{tableOf, strideOf}
-use Rattle.held.proofs.table.RecordTable as T
-use Rattle.held.proofs.table.RecordTable.Laws as T′
+use Rattle.borrowed.proofs.table.RecordTable as T
+use Rattle.borrowed.proofs.table.RecordTable.Laws as T′
 use Rattle.kw_test.proofs.Joined.{forward-is}
-use Rattle.held.proofs.table.RecordTable.from_bytes as made
-use Rattle.held.proofs.table.RecordTable.from_bytes.Symbol as made-def
-use Rattle.held.proofs.table.RecordTable.from_bytes.Symbol.{name as #made}
-use Rattle.held.proofs.table.RecordTable.from_bytes.Met as made-thm
-use Rattle.held.proofs.table.RecordTable.range_is_forward as forward
-use Rattle.held.proofs.table.RecordTable.range_is_forward.Symbol as forward-def
-use Rattle.held.proofs.table.RecordTable.range_is_forward.Symbol.{name as #forward}
-use Rattle.held.proofs.table.RecordTable.range_is_forward.Met as forward-thm
+use Rattle.borrowed.proofs.table.RecordTable.from_bytes as made
+use Rattle.borrowed.proofs.table.RecordTable.from_bytes.Symbol as made-def
+use Rattle.borrowed.proofs.table.RecordTable.from_bytes.Symbol.{name as #made}
+use Rattle.borrowed.proofs.table.RecordTable.from_bytes.Met as made-thm
+use Rattle.borrowed.proofs.table.RecordTable.range_is_forward as forward
+use Rattle.borrowed.proofs.table.RecordTable.range_is_forward.Symbol as forward-def
+use Rattle.borrowed.proofs.table.RecordTable.range_is_forward.Symbol.{name as #forward}
+use Rattle.borrowed.proofs.table.RecordTable.range_is_forward.Met as forward-thm
 use Rattle.kw_test.proofs.values.table_forward.Key.{name as #me}
 use Rattle.kw_test.proofs.values.table_forward as me
 use Rattle.kw_test.proofs.values.table_forward.Statement as stated
 use Rattle.kw_test.proofs.values.table_forward.Code as code
-use Rattle.held.proofs.Asks.{asks-told}
-use Rattle.held.proofs.Parts.{bytesVal, number, slice}
-use Rattle.held.proofs.Shown.{hs, Post, leaves-with, shown, C, Λ}
+use Rattle.borrowed.proofs.Asks.{asks-told}
+use Rattle.borrowed.proofs.Parts.{bytesVal, number, slice}
+use Rattle.borrowed.proofs.Shown.{hs, Post, leaves-with, shown, C, Λ}
 
 module _ {M : Type 1} (𝓤 : URA M) (H : Heap 𝓤) (𝓜 : Model 𝓤 H) (𝓖 : GhostRules 𝓤 H) (𝓡 : Running 𝓤 H 𝓜) (κs : Lfts 1) (qs : Shares 1) (x : RefT (List ℕ)) (k : ℕ) (at : ℕ) (first : ℕ) (count : ℕ) where
   abbrev A : Atoms 𝓤
@@ -84,13 +84,13 @@ module _ {M : Type 1} (𝓤 : URA M) (H : Heap 𝓤) (𝓜 : Model 𝓤 H) (𝓖
       alloc1 ! (λ l₀. alloc1 ! (λ l₁. alloc1 ! (λ l₂. alloc1 ! (λ l₃. alloc1 ! (λ l₄. alloc1 ! (λ l₅. alloc1 ! (λ l₆. alloc1 ! (λ l₇. alloc0 ! $ params1 ! $ pass1 ! (init ! 12 refl (slice 𝓤 H 𝓜 𝓖 (named 0) (κs .0) x x-is .typed)) $ pass1 ! (init ! 10 refl (number 𝓤 H 𝓜 𝓖 w64 k k-is .typed)) $ pass1 ! (init ! 8 refl (number 𝓤 H 𝓜 𝓖 w64 at at-is .typed)) $ pass1 ! (init ! 6 refl (number 𝓤 H 𝓜 𝓖 w32 first first-is .typed)) $ pass1 ! (init ! 4 refl (number 𝓤 H 𝓜 𝓖 w32 count count-is .typed)) $ pass0 ! $
       move ! (16 ∷ []) $ use1 W (Tok ⊛ ‵ (ShrSlice (named 0) (κs .0) u8 .own x (bytesVal x ∷ []))) enters $ split ! $ nothing ! $ owned ! usize (Is usize) (uint-makes 𝓤 H A W w64) k _ k-is $ fjoin ! $ move ! (2 ∷ 0 ∷ []) $ fjoin ! $
       move ! (1 ∷ 0 ∷ []) $
-      asks-told 𝓤 H 𝓜 𝓖 𝓡 code.env (made.signature .result) (made.signature .params) (made.ended .kept) (made.clauses 𝓤 H A (𝓜 .mem) (𝓡 .run)) #made made-def.routine code.calls-held·table·RecordTable·from-bytes (made-thm.met 𝓤 H 𝓜 𝓖 𝓡) κs qs (x, (k, tt)) (bytesVal x ∷ [], (vint w64 k ∷ [], tt)) tt (id⊢ 𝓤 _)
+      asks-told 𝓤 H 𝓜 𝓖 𝓡 code.env (made.signature .result) (made.signature .params) (made.ended .kept) (made.clauses 𝓤 H A (𝓜 .mem) (𝓡 .run)) #made made-def.routine code.calls-borrowed·table·RecordTable·from-bytes (made-thm.met 𝓤 H 𝓜 𝓖 𝓡) κs qs (x, (k, tt)) (bytesVal x ∷ [], (vint w64 k ∷ [], tt)) tt (id⊢ 𝓤 _)
       (λ d. PartAt x (d .bytes) 0 (tableOf (now x) k) × (d .stride ≡ strideOf (now x) k)) (λ d ws. id⊢ 𝓤 _) (bytesVal x ∷ vint w64 k ∷ []) refl (and-then ! (load ! (from ! (stop !)) (look ! 13 refl)) (and-then ! (load ! (from ! (stop !)) (look ! 11 refl)) (no-more !))) (λ d du d-is e.
       land ! (from ! (stop !)) (init ! 4 refl (LL.lawful (T.the-type αᵉ) (T′.the-laws αᵉ) 𝓤 H A W .typed d _ d-is .0)) $
       assigns ! (of-opd ! (load ! (from ! (stop !)) (look ! 4 refl))) (from ! (stop !)) (init ! 2 refl (LL.lawful (T.the-type αᵉ) (T′.the-laws αᵉ) 𝓤 H A W .typed d _ d-is .0)) $ nothing ! $
       owned ! u32 (Is u32) (uint-makes 𝓤 H A W w32) count _ count-is $ fjoin ! $ owned ! u32 (Is u32) (uint-makes 𝓤 H A W w32) first _ first-is $ fjoin ! $ owned ! usize (Is usize) (uint-makes 𝓤 H A W w64) at _ at-is $ fjoin ! $
       move ! (1 ∷ 0 ∷ []) $ fjoin ! $ move ! (1 ∷ 0 ∷ []) $
-      asks-told 𝓤 H 𝓜 𝓖 𝓡 code.env (forward.signature .result) (forward.signature .params) (forward.ended .kept) (forward.clauses 𝓤 H A (𝓜 .mem) (𝓡 .run)) #forward forward-def.routine code.calls-held·table·RecordTable·range-is-forward (forward-thm.met 𝓤 H 𝓜 𝓖 𝓡) κs qs (d, (at, (first, (count, tt)))) (du ∷ [], (vint w64 at ∷ [], (vint w32 first ∷ [], (vint w32 count ∷ [], tt)))) tt (id⊢ 𝓤 _)
+      asks-told 𝓤 H 𝓜 𝓖 𝓡 code.env (forward.signature .result) (forward.signature .params) (forward.ended .kept) (forward.clauses 𝓤 H A (𝓜 .mem) (𝓡 .run)) #forward forward-def.routine code.calls-borrowed·table·RecordTable·range-is-forward (forward-thm.met 𝓤 H 𝓜 𝓖 𝓡) κs qs (d, (at, (first, (count, tt)))) (du ∷ [], (vint w64 at ∷ [], (vint w32 first ∷ [], (vint w32 count ∷ [], tt)))) tt (id⊢ 𝓤 _)
       (λ r. r ≡ rangeIsForward (recordCount (length (now (d .bytes))) (d .stride)) at first count) (λ r ws. id⊢ 𝓤 _) (du ∷ vint w64 at ∷ vint w32 first ∷ vint w32 count ∷ []) refl (and-then ! (load ! (from ! (stop !)) (look ! 1 refl)) (and-then ! (load ! (from ! (stop !)) (look ! 9 refl)) (and-then ! (load ! (from ! (stop !)) (look ! 7 refl)) (and-then ! (load ! (from ! (stop !)) (look ! 5 refl)) (no-more !))))) (λ r u r-is f.
       land ! (from ! (stop !)) (init ! 16 refl (bool-lawful 𝓤 H A W .typed r _ r-is .0)) $
       returns ! (look ! 16 refl) $ forget ! 2 refl $ forget ! 4 refl $ forget ! 6 refl $ forget ! 8 refl $ forget ! 10 refl $ forget ! 12 refl $ forget ! 14 refl $ forget ! 16 refl $

@@ -28,27 +28,27 @@ use denote.Enum.Laws as EL
 use denote.Struct.Laws as LL
 use denote.Triple.Entry.{onEntry}
 use denote.Triple.Walked.{walkOf}
-use Rattle.paper.specs.Views.{partIn, recordRange}
+use Rattle.model.specs.Views.{partIn, recordRange}
 use Rattle.tables.specs.Answers.{asPlace}
 use Rattle.tables.specs.Parts.{PartAt, VeryPartIn}
 use Rattle.kw_test.specs.Held.{tableOf, strideOf, partAnswer}
-use Rattle.held.proofs.table.RecordTable as T
-use Rattle.held.proofs.table.RecordTable.Laws as T′
+use Rattle.borrowed.proofs.table.RecordTable as T
+use Rattle.borrowed.proofs.table.RecordTable.Laws as T′
 use Rattle.tables.proofs.Place as Place
 use Rattle.tables.proofs.Place.Laws as Place′
 use Rattle.kw_test.proofs.Joined.{record-is}
-use Rattle.held.proofs.table.RecordTable.from_bytes as made
-use Rattle.held.proofs.table.RecordTable.from_bytes.Symbol as made-def
-use Rattle.held.proofs.table.RecordTable.from_bytes.Symbol.{name as #made}
-use Rattle.held.proofs.table.RecordTable.from_bytes.Met as made-thm
-use Rattle.held.proofs.table.RecordTable.place as placed
-use Rattle.held.proofs.table.RecordTable.place.Symbol as placed-def
-use Rattle.held.proofs.table.RecordTable.place.Symbol.{name as #placed}
-use Rattle.held.proofs.table.RecordTable.place.Met as placed-thm
-use Rattle.held.proofs.table.RecordTable.get as got
-use Rattle.held.proofs.table.RecordTable.get.Symbol as got-def
-use Rattle.held.proofs.table.RecordTable.get.Symbol.{name as #got}
-use Rattle.held.proofs.table.RecordTable.get.Met as got-thm
+use Rattle.borrowed.proofs.table.RecordTable.from_bytes as made
+use Rattle.borrowed.proofs.table.RecordTable.from_bytes.Symbol as made-def
+use Rattle.borrowed.proofs.table.RecordTable.from_bytes.Symbol.{name as #made}
+use Rattle.borrowed.proofs.table.RecordTable.from_bytes.Met as made-thm
+use Rattle.borrowed.proofs.table.RecordTable.place as placed
+use Rattle.borrowed.proofs.table.RecordTable.place.Symbol as placed-def
+use Rattle.borrowed.proofs.table.RecordTable.place.Symbol.{name as #placed}
+use Rattle.borrowed.proofs.table.RecordTable.place.Met as placed-thm
+use Rattle.borrowed.proofs.table.RecordTable.get as got
+use Rattle.borrowed.proofs.table.RecordTable.get.Symbol as got-def
+use Rattle.borrowed.proofs.table.RecordTable.get.Symbol.{name as #got}
+use Rattle.borrowed.proofs.table.RecordTable.get.Met as got-thm
 use Rattle.kw_test.proofs.values.part_answer as put
 use Rattle.kw_test.proofs.values.part_answer.Symbol as put-def
 use Rattle.kw_test.proofs.values.part_answer.Symbol.{name as #put}
@@ -57,9 +57,9 @@ use Rattle.kw_test.proofs.values.table_record.Key.{name as #me}
 use Rattle.kw_test.proofs.values.table_record as me
 use Rattle.kw_test.proofs.values.table_record.Statement as stated
 use Rattle.kw_test.proofs.values.table_record.Code as code
-use Rattle.held.proofs.Asks.{asks-told}
-use Rattle.held.proofs.Parts.{bytesVal, number, slice}
-use Rattle.held.proofs.Shown.{hs, Post, leaves-with, shown, C, Λ}
+use Rattle.borrowed.proofs.Asks.{asks-told}
+use Rattle.borrowed.proofs.Parts.{bytesVal, number, slice}
+use Rattle.borrowed.proofs.Shown.{hs, Post, leaves-with, shown, C, Λ}
 
 module _ {M : Type 1} (𝓤 : URA M) (H : Heap 𝓤) (𝓜 : Model 𝓤 H) (𝓖 : GhostRules 𝓤 H) (𝓡 : Running 𝓤 H 𝓜) (κs : Lfts 1) (qs : Shares 1) (x : RefT (List ℕ)) (k : ℕ) (i : ℕ) where
   abbrev A : Atoms 𝓤
@@ -96,18 +96,18 @@ module _ {M : Type 1} (𝓤 : URA M) (H : Heap 𝓤) (𝓜 : Model 𝓤 H) (𝓖
       alloc1 ! (λ l₀. alloc1 ! (λ l₁. alloc1 ! (λ l₂. alloc1 ! (λ l₃. alloc1 ! (λ l₄. alloc1 ! (λ l₅. alloc1 ! (λ l₆. alloc1 ! (λ l₇. alloc1 ! (λ l₈. alloc0 ! $ params1 ! $ pass1 ! (init ! 14 refl (slice 𝓤 H 𝓜 𝓖 (named 0) (κs .0) x x-is .typed)) $ pass1 ! (init ! 12 refl (number 𝓤 H 𝓜 𝓖 w64 k k-is .typed)) $ pass1 ! (init ! 10 refl (number 𝓤 H 𝓜 𝓖 w64 i i-is .typed)) $ pass0 ! $
       move ! (18 ∷ []) $ use1 W (Tok ⊛ ‵ (ShrSlice (named 0) (κs .0) u8 .own x (bytesVal x ∷ []))) enters $ split ! $ nothing ! $ owned ! usize (Is usize) (uint-makes 𝓤 H A W w64) k _ k-is $ fjoin ! $ move ! (2 ∷ 0 ∷ []) $ fjoin ! $
       move ! (1 ∷ 0 ∷ []) $
-      asks-told 𝓤 H 𝓜 𝓖 𝓡 code.env (made.signature .result) (made.signature .params) (made.ended .kept) (made.clauses 𝓤 H A (𝓜 .mem) (𝓡 .run)) #made made-def.routine code.calls-held·table·RecordTable·from-bytes (made-thm.met 𝓤 H 𝓜 𝓖 𝓡) κs qs (x, (k, tt)) (bytesVal x ∷ [], (vint w64 k ∷ [], tt)) tt (id⊢ 𝓤 _)
+      asks-told 𝓤 H 𝓜 𝓖 𝓡 code.env (made.signature .result) (made.signature .params) (made.ended .kept) (made.clauses 𝓤 H A (𝓜 .mem) (𝓡 .run)) #made made-def.routine code.calls-borrowed·table·RecordTable·from-bytes (made-thm.met 𝓤 H 𝓜 𝓖 𝓡) κs qs (x, (k, tt)) (bytesVal x ∷ [], (vint w64 k ∷ [], tt)) tt (id⊢ 𝓤 _)
       (λ d. PartAt x (d .bytes) 0 (tableOf (now x) k) × (d .stride ≡ strideOf (now x) k)) (λ d ws. id⊢ 𝓤 _) (bytesVal x ∷ vint w64 k ∷ []) refl (and-then ! (load ! (from ! (stop !)) (look ! 15 refl)) (and-then ! (load ! (from ! (stop !)) (look ! 13 refl)) (no-more !))) (λ d du d-is e.
       land ! (from ! (stop !)) (init ! 10 refl (LL.lawful (T.the-type αᵉ) (T′.the-laws αᵉ) 𝓤 H A W .typed d _ d-is .0)) $
       assigns ! (of-opd ! (load ! (from ! (stop !)) (look ! 10 refl))) (from ! (stop !)) (init ! 6 refl (LL.lawful (T.the-type αᵉ) (T′.the-laws αᵉ) 𝓤 H A W .typed d _ d-is .0)) $ nothing ! $
       owned ! usize (Is usize) (uint-makes 𝓤 H A W w64) i _ i-is $ fjoin ! $
       move ! (1 ∷ []) $ use1 W (‵ (T.the-row α .own d (du ∷ [])) ⊛ ‵ (T.the-row α .own d (du ∷ []))) (LL.copy (T.the-type α) (T′.the-copy α) 𝓤 H A W .twice d (du ∷ [])) $ split ! $ move ! (0 ∷ 2 ∷ []) $ fjoin ! $ move ! (2 ∷ 0 ∷ []) $
-      asks-told 𝓤 H 𝓜 𝓖 𝓡 code.env (placed.signature .result) (placed.signature .params) (placed.ended .kept) (placed.clauses 𝓤 H A (𝓜 .mem) (𝓡 .run)) #placed placed-def.routine code.calls-held·table·RecordTable·place (placed-thm.met 𝓤 H 𝓜 𝓖 𝓡) κs qs (d, (i, tt)) (du ∷ [], (vint w64 i ∷ [], tt)) tt (id⊢ 𝓤 _)
+      asks-told 𝓤 H 𝓜 𝓖 𝓡 code.env (placed.signature .result) (placed.signature .params) (placed.ended .kept) (placed.clauses 𝓤 H A (𝓜 .mem) (𝓡 .run)) #placed placed-def.routine code.calls-borrowed·table·RecordTable·place (placed-thm.met 𝓤 H 𝓜 𝓖 𝓡) κs qs (d, (i, tt)) (du ∷ [], (vint w64 i ∷ [], tt)) tt (id⊢ 𝓤 _)
       (λ p. asPlace p ≡ recordRange (length (now (d .bytes))) (d .stride) i) (λ p ws. id⊢ 𝓤 _) (du ∷ vint w64 i ∷ []) refl (and-then ! (load ! (from ! (stop !)) (look ! 6 refl)) (and-then ! (load ! (from ! (stop !)) (look ! 12 refl)) (no-more !))) (λ p pu p-is f.
       land ! (from ! (stop !)) (init ! 9 refl (EL.lawful Place.the-type Place′.the-laws 𝓤 H A W tt .typed p _ p-is .0)) $
       assigns ! (of-opd ! (load ! (from ! (stop !)) (look ! 11 refl))) (from ! (stop !)) (init ! 3 refl (LL.lawful (T.the-type αᵉ) (T′.the-laws αᵉ) 𝓤 H A W .typed d _ d-is .0)) $ nothing ! $
       owned ! usize (Is usize) (uint-makes 𝓤 H A W w64) i _ i-is $ fjoin ! $ move ! (3 ∷ 0 ∷ []) $ fjoin ! $ move ! (2 ∷ 0 ∷ []) $
-      asks-told 𝓤 H 𝓜 𝓖 𝓡 code.env (got.signature .result) (got.signature .params) (got.ended .kept) (got.clauses 𝓤 H A (𝓜 .mem) (𝓡 .run)) #got got-def.routine code.calls-held·table·RecordTable·get (got-thm.met 𝓤 H 𝓜 𝓖 𝓡) κs qs (d, (i, tt)) (du ∷ [], (vint w64 i ∷ [], tt)) tt (id⊢ 𝓤 _)
+      asks-told 𝓤 H 𝓜 𝓖 𝓡 code.env (got.signature .result) (got.signature .params) (got.ended .kept) (got.clauses 𝓤 H A (𝓜 .mem) (𝓡 .run)) #got got-def.routine code.calls-borrowed·table·RecordTable·get (got-thm.met 𝓤 H 𝓜 𝓖 𝓡) κs qs (d, (i, tt)) (du ∷ [], (vint w64 i ∷ [], tt)) tt (id⊢ 𝓤 _)
       (λ q. VeryPartIn (d .bytes) q (recordRange (length (now (d .bytes))) (d .stride) i)) (λ q ws. id⊢ 𝓤 _) (du ∷ vint w64 i ∷ []) refl (and-then ! (load ! (from ! (stop !)) (look ! 2 refl)) (and-then ! (load ! (from ! (stop !)) (look ! 12 refl)) (no-more !))) (λ q qu q-is g.
       land ! (from ! (stop !)) (init ! 5 refl (shr-slice-lawful 𝓤 H A W erased (κs .0) u8 .typed q _ q-is .0)) $ nothing ! $ move ! (1 ∷ 0 ∷ []) $ fjoin ! $ move ! (2 ∷ 0 ∷ []) $ fjoin ! $ move ! (1 ∷ 0 ∷ []) $
       asks-told 𝓤 H 𝓜 𝓖 𝓡 code.env (put.signature .result) (put.signature .params) (put.ended .kept) (put.clauses 𝓤 H A (𝓜 .mem) (𝓡 .run)) #put put-def.routine code.calls-kw-test·values·part-answer (put-thm.met 𝓤 H 𝓜 𝓖 𝓡) κs qs (p, (q, tt)) (pu ∷ [], (qu ∷ [], tt)) tt (id⊢ 𝓤 _)

@@ -29,28 +29,28 @@ use denote.Struct.Laws as LL
 use denote.Triple.Entry.{onEntry}
 use denote.Triple.Walked.{walkOf}
 use Rattle.bits.specs.Bit.{num}
-use Rattle.paper.specs.Views.{recordCount}
+use Rattle.model.specs.Views.{recordCount}
 use Rattle.tables.specs.Parts.{PartAt}
 use Rattle.kw_test.specs.Held.{tableOf, strideOf, tableNumbers}
-use Rattle.held.proofs.table.RecordTable as T
-use Rattle.held.proofs.table.RecordTable.Laws as T′
+use Rattle.borrowed.proofs.table.RecordTable as T
+use Rattle.borrowed.proofs.table.RecordTable.Laws as T′
 use Rattle.kw_test.proofs.Joined.{size-is}
-use Rattle.held.proofs.table.RecordTable.from_bytes as made
-use Rattle.held.proofs.table.RecordTable.from_bytes.Symbol as made-def
-use Rattle.held.proofs.table.RecordTable.from_bytes.Symbol.{name as #made}
-use Rattle.held.proofs.table.RecordTable.from_bytes.Met as made-thm
-use Rattle.held.proofs.table.RecordTable.len as count
-use Rattle.held.proofs.table.RecordTable.len.Symbol as count-def
-use Rattle.held.proofs.table.RecordTable.len.Symbol.{name as #count}
-use Rattle.held.proofs.table.RecordTable.len.Met as count-thm
-use Rattle.held.proofs.table.RecordTable.is_empty as empty
-use Rattle.held.proofs.table.RecordTable.is_empty.Symbol as empty-def
-use Rattle.held.proofs.table.RecordTable.is_empty.Symbol.{name as #empty}
-use Rattle.held.proofs.table.RecordTable.is_empty.Met as empty-thm
-use Rattle.held.proofs.table.RecordTable.stride as strided
-use Rattle.held.proofs.table.RecordTable.stride.Symbol as strided-def
-use Rattle.held.proofs.table.RecordTable.stride.Symbol.{name as #strided}
-use Rattle.held.proofs.table.RecordTable.stride.Met as strided-thm
+use Rattle.borrowed.proofs.table.RecordTable.from_bytes as made
+use Rattle.borrowed.proofs.table.RecordTable.from_bytes.Symbol as made-def
+use Rattle.borrowed.proofs.table.RecordTable.from_bytes.Symbol.{name as #made}
+use Rattle.borrowed.proofs.table.RecordTable.from_bytes.Met as made-thm
+use Rattle.borrowed.proofs.table.RecordTable.len as count
+use Rattle.borrowed.proofs.table.RecordTable.len.Symbol as count-def
+use Rattle.borrowed.proofs.table.RecordTable.len.Symbol.{name as #count}
+use Rattle.borrowed.proofs.table.RecordTable.len.Met as count-thm
+use Rattle.borrowed.proofs.table.RecordTable.is_empty as empty
+use Rattle.borrowed.proofs.table.RecordTable.is_empty.Symbol as empty-def
+use Rattle.borrowed.proofs.table.RecordTable.is_empty.Symbol.{name as #empty}
+use Rattle.borrowed.proofs.table.RecordTable.is_empty.Met as empty-thm
+use Rattle.borrowed.proofs.table.RecordTable.stride as strided
+use Rattle.borrowed.proofs.table.RecordTable.stride.Symbol as strided-def
+use Rattle.borrowed.proofs.table.RecordTable.stride.Symbol.{name as #strided}
+use Rattle.borrowed.proofs.table.RecordTable.stride.Met as strided-thm
 use Rattle.kw_test.proofs.values.size_answer as put
 use Rattle.kw_test.proofs.values.size_answer.Symbol as put-def
 use Rattle.kw_test.proofs.values.size_answer.Symbol.{name as #put}
@@ -59,9 +59,9 @@ use Rattle.kw_test.proofs.values.table_size.Key.{name as #me}
 use Rattle.kw_test.proofs.values.table_size as me
 use Rattle.kw_test.proofs.values.table_size.Statement as stated
 use Rattle.kw_test.proofs.values.table_size.Code as code
-use Rattle.held.proofs.Asks.{asks-told}
-use Rattle.held.proofs.Parts.{bytesVal, number, slice}
-use Rattle.held.proofs.Shown.{hs, Post, leaves-with, shown, C, Λ}
+use Rattle.borrowed.proofs.Asks.{asks-told}
+use Rattle.borrowed.proofs.Parts.{bytesVal, number, slice}
+use Rattle.borrowed.proofs.Shown.{hs, Post, leaves-with, shown, C, Λ}
 
 module _ {M : Type 1} (𝓤 : URA M) (H : Heap 𝓤) (𝓜 : Model 𝓤 H) (𝓖 : GhostRules 𝓤 H) (𝓡 : Running 𝓤 H 𝓜) (κs : Lfts 1) (qs : Shares 1) (x : RefT (List ℕ)) (k : ℕ) where
   abbrev A : Atoms 𝓤
@@ -98,22 +98,22 @@ module _ {M : Type 1} (𝓤 : URA M) (H : Heap 𝓤) (𝓜 : Model 𝓤 H) (𝓖
       alloc1 ! (λ l₀. alloc1 ! (λ l₁. alloc1 ! (λ l₂. alloc1 ! (λ l₃. alloc1 ! (λ l₄. alloc1 ! (λ l₅. alloc1 ! (λ l₆. alloc1 ! (λ l₇. alloc1 ! (λ l₈. alloc1 ! (λ l₉. alloc0 ! $ params1 ! $ pass1 ! (init ! 16 refl (slice 𝓤 H 𝓜 𝓖 (named 0) (κs .0) x x-is .typed)) $ pass1 ! (init ! 14 refl (number 𝓤 H 𝓜 𝓖 w64 k k-is .typed)) $ pass0 ! $
       move ! (20 ∷ []) $ use1 W (Tok ⊛ ‵ (ShrSlice (named 0) (κs .0) u8 .own x (bytesVal x ∷ []))) enters $ split ! $ nothing ! $ owned ! usize (Is usize) (uint-makes 𝓤 H A W w64) k _ k-is $ fjoin ! $ move ! (2 ∷ 0 ∷ []) $ fjoin ! $
       move ! (1 ∷ 0 ∷ []) $
-      asks-told 𝓤 H 𝓜 𝓖 𝓡 code.env (made.signature .result) (made.signature .params) (made.ended .kept) (made.clauses 𝓤 H A (𝓜 .mem) (𝓡 .run)) #made made-def.routine code.calls-held·table·RecordTable·from-bytes (made-thm.met 𝓤 H 𝓜 𝓖 𝓡) κs qs (x, (k, tt)) (bytesVal x ∷ [], (vint w64 k ∷ [], tt)) tt (id⊢ 𝓤 _)
+      asks-told 𝓤 H 𝓜 𝓖 𝓡 code.env (made.signature .result) (made.signature .params) (made.ended .kept) (made.clauses 𝓤 H A (𝓜 .mem) (𝓡 .run)) #made made-def.routine code.calls-borrowed·table·RecordTable·from-bytes (made-thm.met 𝓤 H 𝓜 𝓖 𝓡) κs qs (x, (k, tt)) (bytesVal x ∷ [], (vint w64 k ∷ [], tt)) tt (id⊢ 𝓤 _)
       (λ d. PartAt x (d .bytes) 0 (tableOf (now x) k) × (d .stride ≡ strideOf (now x) k)) (λ d ws. id⊢ 𝓤 _) (bytesVal x ∷ vint w64 k ∷ []) refl (and-then ! (load ! (from ! (stop !)) (look ! 17 refl)) (and-then ! (load ! (from ! (stop !)) (look ! 15 refl)) (no-more !))) (λ d du d-is e.
       land ! (from ! (stop !)) (init ! 14 refl (LL.lawful (T.the-type αᵉ) (T′.the-laws αᵉ) 𝓤 H A W .typed d _ d-is .0)) $
       assigns ! (of-opd ! (load ! (from ! (stop !)) (look ! 14 refl))) (from ! (stop !)) (init ! 10 refl (LL.lawful (T.the-type αᵉ) (T′.the-laws αᵉ) 𝓤 H A W .typed d _ d-is .0)) $ nothing ! $
       move ! (1 ∷ []) $ use1 W (‵ (T.the-row α .own d (du ∷ [])) ⊛ ‵ (T.the-row α .own d (du ∷ []))) (LL.copy (T.the-type α) (T′.the-copy α) 𝓤 H A W .twice d (du ∷ [])) $ split ! $ move ! (0 ∷ 2 ∷ []) $ fjoin ! $ move ! (2 ∷ 0 ∷ []) $
-      asks-told 𝓤 H 𝓜 𝓖 𝓡 code.env (count.signature .result) (count.signature .params) (count.ended .kept) (count.clauses 𝓤 H A (𝓜 .mem) (𝓡 .run)) #count count-def.routine code.calls-held·table·RecordTable·len (count-thm.met 𝓤 H 𝓜 𝓖 𝓡) κs qs (d, tt) (du ∷ [], tt) tt (id⊢ 𝓤 _)
+      asks-told 𝓤 H 𝓜 𝓖 𝓡 code.env (count.signature .result) (count.signature .params) (count.ended .kept) (count.clauses 𝓤 H A (𝓜 .mem) (𝓡 .run)) #count count-def.routine code.calls-borrowed·table·RecordTable·len (count-thm.met 𝓤 H 𝓜 𝓖 𝓡) κs qs (d, tt) (du ∷ [], tt) tt (id⊢ 𝓤 _)
       (λ n. n ≡ recordCount (length (now (d .bytes))) (d .stride)) (λ n ws. id⊢ 𝓤 _) (du ∷ []) refl (and-then ! (load ! (from ! (stop !)) (look ! 10 refl)) (no-more !)) (λ n nu n-is f.
       land ! (from ! (stop !)) (init ! 13 refl (uint-lawful 𝓤 H A W w64 .typed n _ n-is .0)) $
       assigns ! (of-opd ! (load ! (from ! (stop !)) (look ! 15 refl))) (from ! (stop !)) (init ! 7 refl (LL.lawful (T.the-type αᵉ) (T′.the-laws αᵉ) 𝓤 H A W .typed d _ d-is .0)) $ nothing ! $
       move ! (3 ∷ []) $ use1 W (‵ (T.the-row α .own d (du ∷ [])) ⊛ ‵ (T.the-row α .own d (du ∷ []))) (LL.copy (T.the-type α) (T′.the-copy α) 𝓤 H A W .twice d (du ∷ [])) $ split ! $ move ! (0 ∷ 2 ∷ []) $ fjoin ! $ move ! (3 ∷ 0 ∷ []) $
-      asks-told 𝓤 H 𝓜 𝓖 𝓡 code.env (empty.signature .result) (empty.signature .params) (empty.ended .kept) (empty.clauses 𝓤 H A (𝓜 .mem) (𝓡 .run)) #empty empty-def.routine code.calls-held·table·RecordTable·is-empty (empty-thm.met 𝓤 H 𝓜 𝓖 𝓡) κs qs (d, tt) (du ∷ [], tt) tt (id⊢ 𝓤 _)
+      asks-told 𝓤 H 𝓜 𝓖 𝓡 code.env (empty.signature .result) (empty.signature .params) (empty.ended .kept) (empty.clauses 𝓤 H A (𝓜 .mem) (𝓡 .run)) #empty empty-def.routine code.calls-borrowed·table·RecordTable·is-empty (empty-thm.met 𝓤 H 𝓜 𝓖 𝓡) κs qs (d, tt) (du ∷ [], tt) tt (id⊢ 𝓤 _)
       (λ b. b ≡ eqb (recordCount (length (now (d .bytes))) (d .stride)) 0) (λ b ws. id⊢ 𝓤 _) (du ∷ []) refl (and-then ! (load ! (from ! (stop !)) (look ! 7 refl)) (no-more !)) (λ b bu b-is g.
       land ! (from ! (stop !)) (init ! 10 refl (bool-lawful 𝓤 H A W .typed b _ b-is .0)) $
       assigns ! (of-opd ! (load ! (from ! (stop !)) (look ! 16 refl))) (from ! (stop !)) (init ! 4 refl (LL.lawful (T.the-type αᵉ) (T′.the-laws αᵉ) 𝓤 H A W .typed d _ d-is .0)) $ nothing ! $ move ! (3 ∷ 0 ∷ []) $ fjoin ! $
       move ! (2 ∷ 0 ∷ []) $
-      asks-told 𝓤 H 𝓜 𝓖 𝓡 code.env (strided.signature .result) (strided.signature .params) (strided.ended .kept) (strided.clauses 𝓤 H A (𝓜 .mem) (𝓡 .run)) #strided strided-def.routine code.calls-held·table·RecordTable·stride (strided-thm.met 𝓤 H 𝓜 𝓖 𝓡) κs qs (d, tt) (du ∷ [], tt) tt (id⊢ 𝓤 _)
+      asks-told 𝓤 H 𝓜 𝓖 𝓡 code.env (strided.signature .result) (strided.signature .params) (strided.ended .kept) (strided.clauses 𝓤 H A (𝓜 .mem) (𝓡 .run)) #strided strided-def.routine code.calls-borrowed·table·RecordTable·stride (strided-thm.met 𝓤 H 𝓜 𝓖 𝓡) κs qs (d, tt) (du ∷ [], tt) tt (id⊢ 𝓤 _)
       (λ m. m ≡ d .stride) (λ m ws. id⊢ 𝓤 _) (du ∷ []) refl (and-then ! (load ! (from ! (stop !)) (look ! 3 refl)) (no-more !)) (λ m mu m-is h.
       land ! (from ! (stop !)) (init ! 6 refl (uint-lawful 𝓤 H A W w64 .typed m _ m-is .0)) $ nothing ! $ move ! (1 ∷ 0 ∷ []) $ fjoin ! $ move ! (2 ∷ 0 ∷ []) $ fjoin ! $ move ! (2 ∷ 0 ∷ []) $ fjoin ! $
       nothing ! $ use1 W (raw (toks 𝓤 A 0 tt tt)) (id⊢ 𝓤 _) $

@@ -2,7 +2,7 @@
 use mathlib.Core.Path.{sym, _∙_}
 use borrow.Author.Needs.{needs}
 use borrow.Author.Tests.{not-true, not-false}
-use Rattle.paper.specs.Scan.{isProtected}
+use Rattle.model.specs.Scan.{isProtected}
 use Rattle.layout.proofs.Region.is_protected.Statement.{statement}
 use Rattle.layout.proofs.Region.is_protected.Tie as tie
 

@@ -3,8 +3,8 @@ use mathlib.Core.Path.{_≡_, refl, sym, ap, _∙_, subst}
 use Prim.Native.Nat.{ℕ, suc, _+_, _-_, _≤_}
 use native.Mathlib.Omega.{arith}
 use lib.ListN.{length, take}
-use Rattle.paper.specs.Scan.{pairsFrom}
-use Rattle.paper.specs.Mend.{fixAll}
+use Rattle.model.specs.Scan.{codewordsFrom}
+use Rattle.model.specs.Mend.{fixAll}
 use Rattle.ecc.specs.Answers.{asOutcome}
 use Rattle.scan.specs.Tally.{Totals, asTotals, withClasses, Room}
 use Rattle.scan.proofs.TallyLaw.{room-next, counted-words}
@@ -15,7 +15,7 @@ use Rattle.repair.proofs.mending.fix_words.Statement.{statement}
 use Rattle.repair.proofs.mending.fix_words.Tie as tie
 
 abbrev Inv-loop : tie.InvT-loop
-Inv-loop table bytes₀ word check n total₀ k₀ bytes total k = (k ≤ n) × (length bytes ≡ length bytes₀) × Room (n - k) (asTotals total .report) × (fixAll (pairsFrom (n - k) (word + k) (check + k)) bytes ≡ fixAll (pairsFrom n word check) bytes₀) × (withClasses (asTotals total) (met bytes (pairsFrom (n - k) (word + k) (check + k))) ≡ withClasses (asTotals total₀) (met bytes₀ (pairsFrom n word check))) × (total .report .words ≡ total₀ .report .words + k)
+Inv-loop table bytes₀ word check n total₀ k₀ bytes total k = (k ≤ n) × (length bytes ≡ length bytes₀) × Room (n - k) (asTotals total .report) × (fixAll (codewordsFrom (n - k) (word + k) (check + k)) bytes ≡ fixAll (codewordsFrom n word check) bytes₀) × (withClasses (asTotals total) (met bytes (codewordsFrom (n - k) (word + k) (check + k))) ≡ withClasses (asTotals total₀) (met bytes₀ (codewordsFrom n word check))) × (total .report .words ≡ total₀ .report .words + k)
 
 abbrev μ-loop : tie.MeasureT-loop
 μ-loop table bytes₀ word check n total₀ k₀ bytes total k = n - k
@@ -48,9 +48,9 @@ loop-again c =
       omega (arith, v .before .before .before .loop .inv .1, c .before .before .bytes .given),
       subst (λ (t : Totals). Room (g .n - (k + 1)) (t .report)) (sym (c .add-word .ensures))
           (room-next (asTotals (a .loop .total)) (g .n - (k + 1)) o (subst (λ (m : ℕ). Room m (asTotals (a .loop .total) .report)) n (a .loop .inv .2))),
-      ap (fixAll (pairsFrom (g .n - (k + 1)) (g .word + (k + 1)) (g .check + (k + 1)))) (v .fix-word .ensures .1)
+      ap (fixAll (codewordsFrom (g .n - (k + 1)) (g .word + (k + 1)) (g .check + (k + 1)))) (v .fix-word .ensures .1)
           ∙ sym (fix-next (g .n) (g .word) (g .check) k (a .loop .bytes) (omega arith)) ∙ a .loop .inv .3,
-      ap (λ (z : Totals). withClasses z (met (v .fix-word .last .1 .0) (pairsFrom (g .n - (k + 1)) (g .word + (k + 1)) (g .check + (k + 1))))) (c .add-word .ensures)
+      ap (λ (z : Totals). withClasses z (met (v .fix-word .last .1 .0) (codewordsFrom (g .n - (k + 1)) (g .word + (k + 1)) (g .check + (k + 1))))) (c .add-word .ensures)
           ∙ met-next (g .n) (g .word) (g .check) k (asTotals (a .loop .total)) (a .loop .bytes) (v .fix-word .last .1 .0) o (omega arith) (v .fix-word .ensures .0) (v .fix-word .ensures .1) ∙ a .loop .inv .4,
       ap (λ (z : Totals). z .report .words) (c .add-word .ensures) ∙ counted-words (asTotals (a .loop .total)) o ∙ omega arith,
     )

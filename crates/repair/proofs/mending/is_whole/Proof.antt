@@ -2,7 +2,7 @@
 use mathlib.Core.Path.{sym, ap}
 use Prim.Native.Nat.{_+_, _-_}
 use borrow.Author.Needs.{needs}
-use Rattle.paper.specs.Mend.{noneUncorrectable}
+use Rattle.model.specs.Mend.{noneUncorrectable}
 use Rattle.scan.specs.Answers.{asScan}
 use Rattle.scan.specs.declared.ScanResult.{ScanResult}
 use borrow.Author.Needs.{needs}

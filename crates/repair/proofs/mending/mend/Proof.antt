@@ -4,9 +4,9 @@ use mathlib.Core.List.{List}
 use Prim.Native.Nat.{ℕ}
 use borrow.Author.Needs.{needs}
 use denote.Ref.{now}
-use Rattle.paper.specs.Refusals.{Verdict, refuse}
-use Rattle.paper.specs.Mend as paper
-use Rattle.paper.specs.Mend.{placementVerdict}
+use Rattle.model.specs.Refusals.{Verdict, refuse}
+use Rattle.model.specs.Mend as model
+use Rattle.model.specs.Mend.{placementVerdict}
 use Rattle.view.specs.declared.header.ParseResult.the-variants.{Parsed}
 use Rattle.view.proofs.AnswersLaw.{parsed-count}
 use Rattle.overlap.specs.declared.Placement.{Placement}
@@ -21,11 +21,11 @@ use Rattle.repair.proofs.mending.mend.Tie as tie
 abbrev verdict : Placement → Verdict
 verdict p = placementVerdict (asPlacement p)
 
-refused : (x : List ℕ) (r : Placement) → asPlacement r ≡ paper.placement x → (n d : ℕ) → verdict r ≡ refuse n d
-    → (paper.refusedMend n d ≡ paper.mend x) × (x ≡ leftBy (paper.mend x) x)
+refused : (x : List ℕ) (r : Placement) → asPlacement r ≡ model.placement x → (n d : ℕ) → verdict r ≡ refuse n d
+    → (model.refusedMend n d ≡ model.mend x) × (x ≡ leftBy (model.mend x) x)
 refused x r e n d v =
     let m = mend-refused x n d (placed-verdict x r e ∙ v) in
-    (sym m, ap (λ (q : paper.MendAnswer). leftBy q x) (sym m))
+    (sym m, ap (λ (q : model.MendAnswer). leftBy q x) (sym m))
 
 mend-apart-requires : tie.Need-mend-apart-requires
 mend-apart-requires c κs =
@@ -60,7 +60,7 @@ returns-4 c =
     let r = c .before .before .before .before .before .before .before .check-placement in
     let x = now (c .before .before .before .before .before .before .before .before .before .before .args .bytes) in
     let v = placed-verdict x (r .result) (r .ensures) ∙ ap verdict (h .1) in
-    (m .ensures .0, m .ensures .1 ∙ ap (λ (q : paper.MendAnswer). leftBy q x) (sym (mend-fine x v)))
+    (m .ensures .0, m .ensures .1 ∙ ap (λ (q : model.MendAnswer). leftBy q x) (sym (mend-fine x v)))
 
 pub mend-spec : {M : Type 1} → statement M
 mend-spec =

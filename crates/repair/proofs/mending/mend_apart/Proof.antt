@@ -8,14 +8,14 @@ use native.Mathlib.Omega.{arith}
 use borrow.Author.Needs.{needs}
 use denote.Ref.{now}
 use lib.ListN.{length}
-use Rattle.paper.specs.Bytes.{Bytes}
-use Rattle.paper.specs.Refusals.{fine}
-use Rattle.paper.specs.Layout.{headerLength}
-use Rattle.paper.specs.Scan.{Report, scan}
-use Rattle.paper.specs.Mend as paper
-use Rattle.paper.specs.Mend.{mendVerdict, changed, mendBytes}
-use Rattle.laws.specs.Steps.{mendHeader, mendWords}
-use Rattle.laws.proofs.Apart.{accepted}
+use Rattle.model.specs.Bytes.{Bytes}
+use Rattle.model.specs.Refusals.{fine}
+use Rattle.model.specs.Layout.{headerLength}
+use Rattle.model.specs.Scan.{Report, scan}
+use Rattle.model.specs.Mend as model
+use Rattle.model.specs.Mend.{mendVerdict, changed, mendBytes}
+use Rattle.lemmas.specs.Steps.{mendHeader, mendWords}
+use Rattle.lemmas.proofs.Apart.{accepted}
 use Rattle.scan.specs.Answers.{asScan}
 use Rattle.scan.specs.Tally.{Totals, asTotals, reportedBy}
 use Rattle.repair.specs.Counting.{scanned}
@@ -69,9 +69,9 @@ returns c =
     let told : asScan (r .result) ≡ scan x =
     r .ensures ∙ ap reportedBy (as-scanned x (h .last .0) v bx (h .result) (h .ensures .0) (h .ensures .1) (asTotals (w .result)) (w .ensures .1)) ∙ scanned-report x in
     let left : w .last .0 ≡ mendBytes x = w .ensures .0 ∙ ap mendWords (h .ensures .0) ∙ mended-all x v bx in (
-      ap₂ (λ (y : List ℕ) (o : Option Report). paper.mended y o (h .result + w .result .report .corrected) (c .is-whole .result)) left told
-          ∙ ap₂ (λ (n : ℕ) (t : Bool). paper.mended (mendBytes x) (scan x) n t)
-          (stored x (h .last .0) v bx (h .result) (h .ensures .0) (h .ensures .1) (asTotals (w .result)) (w .ensures .1)) (c .is-whole .ensures ∙ ap paper.noneUncorrectable told)
+      ap₂ (λ (y : List ℕ) (o : Option Report). model.mended y o (h .result + w .result .report .corrected) (c .is-whole .result)) left told
+          ∙ ap₂ (λ (n : ℕ) (t : Bool). model.mended (mendBytes x) (scan x) n t)
+          (stored x (h .last .0) v bx (h .result) (h .ensures .0) (h .ensures .1) (asTotals (w .result)) (w .ensures .1)) (c .is-whole .ensures ∙ ap model.noneUncorrectable told)
           ∙ sym (mend-fine x v),
       left,
     )

@@ -3,7 +3,7 @@ use mathlib.Core.Path.{sym, _∙_}
 use borrow.Author.Needs.{needs}
 use borrow.Author.Tests.{not-true}
 use denote.Ref.{now}
-use Rattle.laws.proofs.StoredLaw.{changed-none}
+use Rattle.lemmas.proofs.StoredLaw.{changed-none}
 use Rattle.repair.proofs.AgreeLaw.{nothing-wanted}
 use Rattle.repair.proofs.mending.mend_header.Statement.{statement}
 use Rattle.repair.proofs.mending.mend_header.Tie as tie

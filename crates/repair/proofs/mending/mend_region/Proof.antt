@@ -5,8 +5,8 @@ use Prim.Native.Nat.{_^_}
 use native.Mathlib.Omega.{arith}
 use borrow.Author.Needs.{needs}
 use denote.Ref.{now}
-use Rattle.paper.specs.Scan.{Pair}
-use Rattle.paper.specs.Mend.{fixAll}
+use Rattle.model.specs.Scan.{Codeword}
+use Rattle.model.specs.Mend.{fixAll}
 use Rattle.scan.specs.Tally.{Totals, asTotals, marked, withClasses, Room}
 use Rattle.scan.proofs.TallyLaw.{room-less}
 use Rattle.repair.specs.Counting.{met}
@@ -32,9 +32,9 @@ returns c =
     let x = now (g .bytes) in
     let t = asTotals (g .tally) in
     let e : v .result .report .words ≡ t .report .words = ap (λ (q : Totals). q .report .words) (v .ensures) in (
-      w .ensures .0 ∙ ap (λ (ps : List Pair). fixAll ps x) (r .ensures .pairs),
+      w .ensures .0 ∙ ap (λ (ps : List Codeword). fixAll ps x) (r .ensures .codewords),
       (
-        w .ensures .1 .0 ∙ ap₂ (λ (q : Totals) (ps : List Pair). withClasses q (met x ps)) (v .ensures ∙ ap (marked t) (r .ensures .visits)) (r .ensures .pairs),
+        w .ensures .1 .0 ∙ ap₂ (λ (q : Totals) (ps : List Codeword). withClasses q (met x ps)) (v .ensures ∙ ap (marked t) (r .ensures .visits)) (r .ensures .codewords),
         (omega (arith, w .ensures .1 .1 .0, r .ensures .few), w .ensures .1 .1 .1),
       ),
     )

@@ -4,10 +4,10 @@ use Prim.Native.Nat.{ℕ, suc, _+_, _-_, _*_, _^_, _≤_}
 use native.Mathlib.Omega.{arith}
 use denote.Ref.{now}
 use lib.ListN.{length}
-use Rattle.paper.specs.Bytes.{Bytes}
-use Rattle.paper.specs.Scan.{examinedIn}
-use Rattle.paper.specs.Mend.{fixAll}
-use Rattle.paper.proofs.ScanLaw.{anyOf}
+use Rattle.model.specs.Bytes.{Bytes}
+use Rattle.model.specs.Scan.{codewordsIn}
+use Rattle.model.specs.Mend.{fixAll}
+use Rattle.model.proofs.ScanLaw.{anyOf}
 use Rattle.scan.specs.Runs.{visitsAt}
 use Rattle.scan.specs.Tally.{Totals, asTotals, marked, withClasses, Room}
 use Rattle.scan.proofs.TallyLaw.{room-start}
@@ -47,9 +47,9 @@ loop-again c =
       omega (arith, c .before .bytes .given),
       omega (arith, o .ensures .1 .1 .0),
       o .ensures .1 .1 .1,
-      o .ensures .0 ∙ ap (λ (m : ℕ). fixAll (examinedIn (visitsAt m y (l .i))) y) (s .pre .0)
+      o .ensures .0 ∙ ap (λ (m : ℕ). fixAll (codewordsIn (visitsAt m y (l .i))) y) (s .pre .0)
           ∙ fixed-next x (s .pre .1) bs (l .i) y (l .inv .4) ∙ ap (fixedTo x) e,
-      o .ensures .1 .0 ∙ ap (λ (m : ℕ). withClasses (marked (asTotals (l .tally)) (anyOf (visitsAt m y (l .i)))) (met y (examinedIn (visitsAt m y (l .i))))) (s .pre .0)
+      o .ensures .1 .0 ∙ ap (λ (m : ℕ). withClasses (marked (asTotals (l .tally)) (anyOf (visitsAt m y (l .i)))) (met y (codewordsIn (visitsAt m y (l .i))))) (s .pre .0)
           ∙ tally-next x (s .pre .1) bs (l .i) y (asTotals (l .tally)) (l .inv .4) (l .inv .5) ∙ ap (talliedTo x) e,
     )
 

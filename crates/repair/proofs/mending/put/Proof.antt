@@ -5,7 +5,7 @@ use Prim.Native.Nat.{_+_, _-_}
 use borrow.Author.Needs.{needs}
 use borrow.Author.Tests.{eq-eqb, ne-eqb}
 use denote.Ref.{now}
-use Rattle.paper.specs.Bytes.{at}
+use Rattle.model.specs.Bytes.{at}
 use borrow.Author.Needs.{needs}
 use Rattle.repair.proofs.mending.put.Statement.{statement}
 use Rattle.repair.proofs.mending.put.Tie as tie

@@ -4,7 +4,7 @@ use native.Mathlib.Omega.{arith}
 use borrow.Author.Needs.{needs}
 use denote.Ref.{now}
 use lib.Dec.{eqb}
-use Rattle.paper.specs.Bytes.{at}
+use Rattle.model.specs.Bytes.{at}
 use Rattle.repair.proofs.SettleLaw.{at-most-one, settled, settled-count}
 use borrow.Author.Needs.{needs}
 use Rattle.repair.proofs.mending.settle_byte.Statement.{statement}

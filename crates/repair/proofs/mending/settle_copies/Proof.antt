@@ -5,11 +5,11 @@ use Prim.Native.Nat.{ℕ, _+_, _-_, _≤_}
 use native.Mathlib.Omega.{arith}
 use denote.Ref.{now}
 use lib.ListN.{length, take}
-use Rattle.paper.specs.Mend.{changed}
-use Rattle.laws.specs.Steps.{copyVotes}
+use Rattle.model.specs.Mend.{changed}
+use Rattle.lemmas.specs.Steps.{copyVotes}
 use Rattle.repair.proofs.SettleLaw.{changed-most, Untouched, changed-next, untouched-next, votes-next, votes-done}
-use Rattle.laws.proofs.HeaderHalf.{copyVote-length}
-use Rattle.laws.proofs.StoredLaw.{changed-none}
+use Rattle.lemmas.proofs.HeaderHalf.{copyVote-length}
+use Rattle.lemmas.proofs.StoredLaw.{changed-none}
 use Rattle.repair.proofs.mending.settle_copies.Statement.{statement}
 use Rattle.repair.proofs.mending.settle_copies.Tie as tie
 

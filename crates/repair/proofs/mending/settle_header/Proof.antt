@@ -5,7 +5,7 @@ use native.Mathlib.Omega.{arith}
 use borrow.Author.Needs.{needs}
 use denote.Ref.{now}
 use lib.ListN.{length}
-use Rattle.paper.specs.Layout.{headerLength}
+use Rattle.model.specs.Layout.{headerLength}
 use Rattle.repair.proofs.SettleLaw.{changed-most, header-settled, header-stored}
 use Rattle.repair.proofs.mending.settle_header.Statement.{statement}
 use Rattle.repair.proofs.mending.settle_header.Tie as tie

@@ -10,11 +10,11 @@ use native.Mathlib.Omega.{arith}
 use borrow.Author.Needs.{needs}
 use denote.Ref.{now}
 use lib.ListN.{length, take}
-use Rattle.paper.specs.Refusals.{fine}
-use Rattle.paper.specs.Layout.{count}
-use Rattle.paper.specs.Parse.{parseVerdict}
-use Rattle.paper.specs.Scrub.{State, Scrubbed, scrubFrom, reported}
-use Rattle.paper.specs.Scrub as paper
+use Rattle.model.specs.Refusals.{fine}
+use Rattle.model.specs.Layout.{count}
+use Rattle.model.specs.Parse.{parseVerdict}
+use Rattle.model.specs.Scrub.{State, Scrubbed, scrubFrom, reported}
+use Rattle.model.specs.Scrub as model
 use Rattle.view.specs.declared.header.Header.{Header}
 use Rattle.view.proofs.AnswersLaw.{parsed-fine, parsed-count, parsed-refused}
 use Rattle.scan.specs.Tally.{Totals, asTotals, Room}
@@ -33,7 +33,7 @@ record Checked (x : List ℕ) (h : Header) : Type 0 where
 record Goes (x₀ : List ℕ) (n i : ℕ) (t : Totals) (x : List ℕ) : Type 0 where
   state : State
   stands : Stands t x state
-  ends : scrubFrom (n - i) i state ≡ paper.scrub x₀
+  ends : scrubFrom (n - i) i state ≡ model.scrub x₀
 
 -- a turn: region i is scrubbed in an image that is known to parse
 module _ (x₀ : List ℕ) (n i : ℕ) (t t′ : Totals) (x y : List ℕ) (h : Header) (k : Checked x h) (l : i < n) (g : Goes x₀ n i t x)
@@ -105,7 +105,7 @@ returns-2 c =
     let z : suc (n - (a .loop .i + 1)) ≡ n - a .loop .i = omega arith in
     let q = a .loop .inv .4 in
     let s = q .state in
-    let e : (record { image = s .image; report = none }) ≡ paper.scrub (now (g .bytes)) =
+    let e : (record { image = s .image; report = none }) ≡ model.scrub (now (g .bytes)) =
     sym (from-failed (n - (a .loop .i + 1)) (a .loop .i) s _ _ (ap parseVerdict (sym (q .stands .image)) ∙ parsed-refused (a .loop .bytes) (p .parse2 .result) (p .parse2 .ensures) _ (c .enum-told2 .given .1)))
     ∙ ap (λ (m : ℕ). scrubFrom m (a .loop .i) s) z ∙ q .ends in
     (ap (λ (r : Scrubbed). r .report) e, q .stands .image ∙ ap (λ (r : Scrubbed). r .image) e)
@@ -157,7 +157,7 @@ returns-3 c =
     let z : 0 ≡ n - a .loop .i = omega arith in
     let q = a .loop .inv .4 in
     let s = q .state in
-    let e : record-of s ≡ paper.scrub (now (g .bytes)) =
+    let e : record-of s ≡ model.scrub (now (g .bytes)) =
     sym (from-done (a .loop .i) s) ∙ ap (λ (m : ℕ). scrubFrom m (a .loop .i) s) z ∙ q .ends in (
       c .scan-result .ensures ∙ stands-report (asTotals (a .loop .tally)) (a .loop .bytes) s (q .stands) ∙ ap (λ (r : Scrubbed). r .report) e,
       q .stands .image ∙ ap (λ (r : Scrubbed). r .image) e,

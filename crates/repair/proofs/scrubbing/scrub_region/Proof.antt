@@ -5,9 +5,9 @@ use Prim.Native.Nat.{_^_}
 use native.Mathlib.Omega.{arith}
 use borrow.Author.Needs.{needs}
 use denote.Ref.{now}
-use Rattle.paper.specs.Scan.{Pair}
-use Rattle.paper.specs.Scrub.{scrubWords}
-use Rattle.paper.proofs.ScanLaw.{anyOf, mark}
+use Rattle.model.specs.Scan.{Codeword}
+use Rattle.model.specs.Scrub.{scrubWords}
+use Rattle.model.proofs.ScanLaw.{anyOf, mark}
 use Rattle.scan.specs.Tally.{Totals, asTotals, marked, Room}
 use Rattle.scan.proofs.TallyLaw.{room-less}
 use Rattle.repair.specs.Counting.{Stands}
@@ -42,7 +42,7 @@ returns c =
           let m : Stands (asTotals (v .result)) x (mark (anyOf vs) s) =
           record { image = h .image; counts = v .ensures ∙ ap₂ marked (h .counts) (r .ensures .visits) } in
           region-stands n (g .i) t x s h (asTotals (w .result)) (w .last .1 .0)
-          (subst (λ (ps : List Pair). Stands (asTotals (w .result)) (w .last .1 .0) (scrubWords ps (mark (anyOf vs) s))) (r .ensures .pairs) (w .ensures .0 (mark (anyOf vs) s) m)),
+          (subst (λ (ps : List Codeword). Stands (asTotals (w .result)) (w .last .1 .0) (scrubWords ps (mark (anyOf vs) s))) (r .ensures .codewords) (w .ensures .0 (mark (anyOf vs) s) m)),
     )
 
 pub scrub-region-spec : {M : Type 1} → statement M

@@ -3,8 +3,8 @@ use mathlib.Core.Path.{_≡_, refl, sym, ap, _∙_, subst}
 use Prim.Native.Nat.{ℕ, suc, _+_, _-_, _≤_}
 use native.Mathlib.Omega.{arith}
 use lib.ListN.{length, take}
-use Rattle.paper.specs.Scan.{Pair, pairsFrom, classAt}
-use Rattle.paper.specs.Scrub.{State, storedWord, scrubWord, scrubWords}
+use Rattle.model.specs.Scan.{Codeword, codewordsFrom, classAt}
+use Rattle.model.specs.Scrub.{State, storedWord, scrubWord, scrubWords}
 use Rattle.ecc.specs.Answers.{asOutcome}
 use Rattle.scan.specs.Tally.{Totals, asTotals, Room}
 use Rattle.scan.proofs.TallyLaw.{room-next, counted-words}
@@ -13,11 +13,11 @@ use Rattle.repair.proofs.ScrubbingLaw.{one-word, stored-length, Left, w
 use Rattle.repair.proofs.scrubbing.scrub_words.Statement.{statement}
 use Rattle.repair.proofs.scrubbing.scrub_words.Tie as tie
 
-abbrev record-pair : ℕ → ℕ → Pair
+abbrev record-pair : ℕ → ℕ → Codeword
 record-pair w k = record { word = w; check = k }
 
 abbrev Inv-loop : tie.InvT-loop
-Inv-loop table bytes₀ word check n total₀ k₀ bytes total k = (k ≤ n) × (length bytes ≡ length bytes₀) × Room (n - k) (asTotals total .report) × ((s : State) → Stands (asTotals total₀) bytes₀ s → Left (asTotals total) bytes (pairsFrom (n - k) (word + k) (check + k)) (scrubWords (pairsFrom n word check) s)) × (total .report .words ≡ total₀ .report .words + k)
+Inv-loop table bytes₀ word check n total₀ k₀ bytes total k = (k ≤ n) × (length bytes ≡ length bytes₀) × Room (n - k) (asTotals total .report) × ((s : State) → Stands (asTotals total₀) bytes₀ s → Left (asTotals total) bytes (codewordsFrom (n - k) (word + k) (check + k)) (scrubWords (codewordsFrom n word check) s)) × (total .report .words ≡ total₀ .report .words + k)
 
 abbrev μ-loop : tie.MeasureT-loop
 μ-loop table bytes₀ word check n total₀ k₀ bytes total k = n - k

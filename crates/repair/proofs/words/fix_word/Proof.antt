@@ -6,13 +6,13 @@ use native.Mathlib.Omega.{arith}
 use borrow.Author.Needs.{needs}
 use denote.Ref.{now}
 use lib.ListN.{set, length-set}
-use Rattle.paper.specs.Bytes.{le}
+use Rattle.model.specs.Bytes.{leBytes}
 use borrow.Rule.Slice.PartMut.{putMid}
-use Rattle.paper.proofs.BytesLaw.{length-le}
+use Rattle.model.proofs.BytesLaw.{length-leBytes}
 use Rattle.ecc.specs.Answers.{asOutcome}
 use Rattle.ecc.specs.CheckTable.{checkWith}
 use Rattle.ecc.proofs.CheckTableLaw.{table-check}
-use Rattle.repair.proofs.OutcomeLaw.{put-part, fix-clean, fix-lost, fix-put}
+use Rattle.repair.proofs.OutcomeLaw.{put-part, fix-clean, fix-uncorrectable, fix-put}
 use Rattle.repair.proofs.words.fix_word.Statement.{statement}
 use Rattle.repair.proofs.words.fix_word.Tie as tie
 
@@ -41,7 +41,7 @@ returns-2 c =
     let e = ap asOutcome (sym (t .1)) ∙ d .ensures in (
       e,
       ap (putMid (8 * g .word) (8 * g .word + 8 - 8 * g .word) y) (w .ensures)
-          ∙ put-part y (le 8 v) (8 * g .word) (8 * g .word + 8) (omega arith) (omega (arith, length-set x (g .check) (k .result), s .pre .0)) (length-le 8 v ∙ omega arith)
+          ∙ put-part y (leBytes 8 v) (8 * g .word) (8 * g .word + 8) (omega arith) (omega (arith, length-set x (g .check) (k .result), s .pre .0)) (length-leBytes 8 v ∙ omega arith)
           ∙ fix-put x (record { word = g .word; check = g .check }) v (k .result) e (k .ensures ∙ ap (λ (z : List ℕ). checkWith z v) (s .pre .2) ∙ table-check v),
     )
 
@@ -49,7 +49,7 @@ returns-3 : tie.Need-returns-3
 returns-3 c =
     let d = c .before .before .status-at in
     let g = c .before .before .before .before .before .args in
-    (d .ensures, fix-lost (now (g .bytes)) (record { word = g .word; check = g .check }) (ap asOutcome (sym (c .enum-told2 .given .1)) ∙ d .ensures))
+    (d .ensures, fix-uncorrectable (now (g .bytes)) (record { word = g .word; check = g .check }) (ap asOutcome (sym (c .enum-told2 .given .1)) ∙ d .ensures))
 
 pub fix-word-spec : {M : Type 1} → statement M
 fix-word-spec =

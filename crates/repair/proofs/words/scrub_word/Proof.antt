@@ -4,11 +4,11 @@ use Prim.Native.Nat.{_+_, _-_, _*_}
 use native.Mathlib.Omega.{arith}
 use borrow.Author.Needs.{needs}
 use denote.Ref.{now}
-use Rattle.paper.specs.Bytes.{le}
+use Rattle.model.specs.Bytes.{leBytes}
 use borrow.Rule.Slice.PartMut.{putMid}
-use Rattle.paper.proofs.BytesLaw.{length-le}
+use Rattle.model.proofs.BytesLaw.{length-leBytes}
 use Rattle.ecc.specs.Answers.{asOutcome}
-use Rattle.repair.proofs.OutcomeLaw.{put-part, kept-clean, kept-lost, put-back}
+use Rattle.repair.proofs.OutcomeLaw.{put-part, kept-clean, kept-uncorrectable, put-back}
 use Rattle.repair.proofs.words.scrub_word.Statement.{statement}
 use Rattle.repair.proofs.words.scrub_word.Tie as tie
 
@@ -29,7 +29,7 @@ returns-2 c =
     let e = ap asOutcome (sym (t .1)) ∙ d .ensures in (
       e,
       ap (putMid (8 * g .word) (8 * g .word + 8 - 8 * g .word) x) (w .ensures)
-          ∙ put-part x (le 8 (t .0 .0)) (8 * g .word) (8 * g .word + 8) (omega arith) (s .pre .0) (length-le 8 (t .0 .0) ∙ omega arith)
+          ∙ put-part x (leBytes 8 (t .0 .0)) (8 * g .word) (8 * g .word + 8) (omega arith) (s .pre .0) (length-leBytes 8 (t .0 .0) ∙ omega arith)
           ∙ put-back x (record { word = g .word; check = g .check }) (t .0 .0) e,
     )
 
@@ -37,7 +37,7 @@ returns-3 : tie.Need-returns-3
 returns-3 c =
     let d = c .before .before .status-at in
     let g = c .before .before .before .before .before .args in
-    (d .ensures, kept-lost (now (g .bytes)) (record { word = g .word; check = g .check }) (ap asOutcome (sym (c .enum-told2 .given .1)) ∙ d .ensures))
+    (d .ensures, kept-uncorrectable (now (g .bytes)) (record { word = g .word; check = g .check }) (ap asOutcome (sym (c .enum-told2 .given .1)) ∙ d .ensures))
 
 pub scrub-word-spec : {M : Type 1} → statement M
 scrub-word-spec =

@@ -4,7 +4,7 @@ use mathlib.Core.List.{List}
 use Prim.Native.Nat.{ℕ}
 use borrow.Author.Needs.{needs}
 use denote.Ref.{now}
-use Rattle.paper.specs.Bytes.{at}
+use Rattle.model.specs.Bytes.{at}
 use Rattle.ecc.specs.CheckTable.{checkWith, outcomeWith}
 use Rattle.ecc.proofs.CheckTableLaw.{table-check, table-outcome}
 use Rattle.repair.proofs.OutcomeLaw.{told-word, told-matched}

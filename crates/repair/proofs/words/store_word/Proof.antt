@@ -6,7 +6,7 @@ use borrow.Author.Needs.{needs}
 use borrow.Author.Count.{below-more}
 use lib.ListN.{length, getD, set, length-set}
 use lib.Seq.{ext-getD, getD-set-same, getD-set-other}
-use Rattle.paper.proofs.BytesLaw.{length-le}
+use Rattle.model.proofs.BytesLaw.{length-leBytes}
 use Rattle.repair.proofs.words.store_word.Statement.{statement}
 use Rattle.repair.proofs.words.store_word.Tie as tie
 
@@ -20,7 +20,7 @@ loop-holds : tie.Need-loop-holds Inv-loop μ-loop
 loop-holds c = (search needs, search needs, λ p h. absurd (omega arith))
 
 array-read-part : tie.Need-array-read-part Inv-loop μ-loop
-array-read-part c = omega (arith, ap length (c .before .before .u64-bytes .ensures), length-le 8 (c .before .before .before .before .args .value))
+array-read-part c = omega (arith, ap length (c .before .before .u64-bytes .ensures), length-leBytes 8 (c .before .before .before .before .args .value))
 
 loop-again : tie.Need-loop-again Inv-loop μ-loop
 loop-again c =
@@ -37,7 +37,7 @@ returns : tie.Need-returns Inv-loop μ-loop
 returns c =
     let a = c .before in
     let u = a .before in
-    ext-getD 0 (a .loop .part) (u .u64-bytes .result) (omega (arith, ap length (u .u64-bytes .ensures), length-le 8 (u .before .before .args .value)))
+    ext-getD 0 (a .loop .part) (u .u64-bytes .result) (omega (arith, ap length (u .u64-bytes .ensures), length-leBytes 8 (u .before .before .args .value)))
     (λ p h. a .loop .inv .2 p (omega arith)) ∙ u .u64-bytes .ensures
 
 pub store-word-spec : {M : Type 1} → statement M

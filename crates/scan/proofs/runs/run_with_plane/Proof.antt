@@ -4,7 +4,7 @@ use Prim.Native.Nat.{_-_}
 use native.Mathlib.Omega.{arith}
 use borrow.Author.Needs.{needs}
 use denote.Ref.{now}
-use Rattle.paper.specs.Scan.{visitWith}
+use Rattle.model.specs.Scan.{visitWith}
 use Rattle.layout.specs.Regions.{asEntry}
 use Rattle.scan.proofs.RunLaw.{empty-run, no-plane, past-end, ordered, the-run}
 use borrow.Author.Needs.{needs}

@@ -1,7 +1,7 @@
 -- `scan::tally::add_report` meets its contract. Assumes nothing.
 use mathlib.Core.Path.{ap}
 use borrow.Author.Needs.{needs}
-use Rattle.paper.specs.Scan.{Report}
+use Rattle.model.specs.Scan.{Report}
 use Rattle.scan.specs.Tally.{Totals}
 use Rattle.scan.proofs.tally.add_report.Statement.{statement}
 use Rattle.scan.proofs.tally.add_report.Tie as tie

@@ -2,7 +2,7 @@
 use mathlib.Core.Path.{sym, ap, _∙_, subst}
 use native.Mathlib.Omega.{arith}
 use borrow.Author.Needs.{needs}
-use Rattle.paper.specs.Scan.{Report}
+use Rattle.model.specs.Scan.{Report}
 use Rattle.ecc.specs.Answers.{asOutcome, asReport}
 use Rattle.scan.specs.Tally.{asTotals, withReport, Bounded, Room}
 use Rattle.scan.proofs.TallyLaw.{words-on, bounded-on}

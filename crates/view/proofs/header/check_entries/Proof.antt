@@ -7,13 +7,13 @@ use native.Mathlib.Omega.{arith}
 use borrow.Author.Needs.{needs}
 use denote.Ref.{now}
 use lib.ListN.{length, getD, drop}
-use Rattle.paper.specs.Bytes.{part}
-use Rattle.paper.proofs.BytesLaw.{part-to-end}
-use Rattle.paper.specs.Refusals.{refuse}
-use Rattle.paper.specs.Layout.{directoryOf}
-use Rattle.paper.specs.Parse.{among, entriesVerdict}
-use Rattle.paper.proofs.LayoutLaw.{entryIn, walk, walked}
-use Rattle.paper.proofs.WalkLaw.{verdict-past, verdict-twice, verdict-next, verdict-end}
+use Rattle.model.specs.Bytes.{part}
+use Rattle.model.proofs.BytesLaw.{part-to-end}
+use Rattle.model.specs.Refusals.{refuse}
+use Rattle.model.specs.Layout.{directoryOf}
+use Rattle.model.specs.Parse.{among, entriesVerdict}
+use Rattle.model.proofs.LayoutLaw.{entryIn, walk, walked}
+use Rattle.model.proofs.WalkLaw.{verdict-past, verdict-twice, verdict-next, verdict-end}
 use Rattle.view.specs.Kinds.{kindsOf, elem}
 use Rattle.view.proofs.KindsLaw.{kind-at, elem-kinds}
 use Rattle.view.proofs.header.check_entries.Statement.{statement}

@@ -5,10 +5,10 @@ use Prim.Native.Nat.{ℕ, _-_, _≤_, _<_}
 use borrow.Author.Needs.{needs}
 use denote.Ref.{now}
 use lib.ListN.{length}
-use Rattle.paper.specs.Layout.{prologue, count, headerLength, directory, directoryOf}
-use Rattle.paper.specs.Parse.{prologueVerdict, parseVerdict, entriesVerdict}
-use Rattle.paper.proofs.ParseLaw.{too-short, prologue-refused, header-past, entries-say, accepted-count}
-use Rattle.paper.specs.Refusals.{fine}
+use Rattle.model.specs.Layout.{prologue, count, headerLength, directory, directoryOf}
+use Rattle.model.specs.Parse.{prologueVerdict, parseVerdict, entriesVerdict}
+use Rattle.model.proofs.ParseLaw.{too-short, prologue-refused, header-past, entries-say, accepted-count}
+use Rattle.model.specs.Refusals.{fine}
 use Rattle.error.specs.declared.Refusal.{Refusal}
 use Rattle.error.specs.declared.Check.{Check}
 use Rattle.error.specs.declared.Check.the-variants.{Fine}

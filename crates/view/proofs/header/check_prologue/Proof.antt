@@ -3,9 +3,9 @@ use mathlib.Core.Path.{sym, ap, _∙_, subst}
 use Prim.Native.Nat.{ℕ, _-_, _≤_, _<_}
 use borrow.Author.Needs.{needs}
 use denote.Ref.{now}
-use Rattle.paper.specs.Refusals.{Verdict}
-use Rattle.paper.specs.Layout.{prologue, countIn, count}
-use Rattle.paper.proofs.ParseLaw.{bad-magic, bad-marker, bad-version, bad-checksum, too-many, good-prologue}
+use Rattle.model.specs.Refusals.{Verdict}
+use Rattle.model.specs.Layout.{prologue, countIn, count}
+use Rattle.model.proofs.ParseLaw.{bad-magic, bad-marker, bad-version, bad-checksum, too-many, good-prologue}
 use Rattle.view.specs.Answers.{withCount, refusedWith, fineWith}
 use borrow.Author.Needs.{needs}
 use Rattle.view.proofs.header.check_prologue.Statement.{statement}

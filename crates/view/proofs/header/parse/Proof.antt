@@ -6,12 +6,12 @@ use Prim.Native.Nat.{ℕ, _-_, _*_, _≤_}
 use native.Mathlib.Omega.{arith}
 use denote.Ref.{now}
 use lib.ListN.{length, drop}
-use Rattle.paper.specs.Bytes.{thrice}
-use Rattle.paper.specs.Refusals.{Verdict, fine}
-use Rattle.paper.specs.Layout.{voted, prologue, count, headerLength, directoryBytesOf, directoryBytes, differs, prologueOff, directoryOff}
-use Rattle.paper.specs.Parse.{parseVerdict, headerOf, accepted, refused, parsedAs}
-use Rattle.paper.specs.Parse as paper
-use Rattle.paper.proofs.ParseLaw.{accepted-long}
+use Rattle.model.specs.Bytes.{thrice}
+use Rattle.model.specs.Refusals.{Verdict, fine}
+use Rattle.model.specs.Layout.{voted, prologue, count, headerLength, directoryBytesOf, directoryBytes, differs, prologueOff, directoryOff}
+use Rattle.model.specs.Parse.{parseVerdict, headerOf, accepted, refused, parsedAs}
+use Rattle.model.specs.Parse as model
+use Rattle.model.proofs.ParseLaw.{accepted-long}
 use Rattle.error.specs.declared.Refusal.{Refusal}
 use Rattle.error.specs.Refused.{numberOf, detailOf}
 use Rattle.view.specs.declared.header.Counted.{Counted}
@@ -24,8 +24,8 @@ use Rattle.view.proofs.header.parse.Tie as tie
 
 -- r is what the checks say of x
 module _ (x : List ℕ) (r : Counted) (e : asCounted r ≡ withCount (parseVerdict x) (count x)) where
-  is-refused : (s : Refusal) → r ≡ Refuse s → refused (numberOf s) (detailOf s) ≡ paper.parse x
-  unfolding paper.parse
+  is-refused : (s : Refusal) → r ≡ Refuse s → refused (numberOf s) (detailOf s) ≡ model.parse x
+  unfolding model.parse
   is-refused s f =
       ap (λ (v : Verdict). parsedAs v (headerOf x))
       (sym (counted-refused (parseVerdict x) (numberOf s) (detailOf s) (count x) (ap asCounted (sym f) ∙ e)))
@@ -41,8 +41,8 @@ module _ (x : List ℕ) (r : Counted) (e : asCounted r ≡ withCount (parseVerdi
     long = subst (λ (k : ℕ). headerLength k ≤ length x) (sym is-count) (accepted-long x is-fine)
 
     is-parsed : (p d : Bool) → p ≡ differs (thrice (voted 0 16 x)) x → d ≡ differs (thrice (voted 48 (16 * n) x)) (drop 48 x)
-        → accepted (record { regions = n; prologueDisagreed = p; directoryDisagreed = d }) ≡ paper.parse x
-    unfolding paper.parse headerOf prologueOff directoryOff prologue directoryBytes directoryBytesOf
+        → accepted (record { regions = n; prologueDisagreed = p; directoryDisagreed = d }) ≡ model.parse x
+    unfolding model.parse headerOf prologueOff directoryOff prologue directoryBytes directoryBytesOf
     is-parsed p d ep ed =
         rw (ep, ed, is-count) (ap (λ (v : Verdict). parsedAs v (headerOf x)) (sym is-fine))
 

@@ -7,7 +7,7 @@ use borrow.Author.Count.{below-more}
 use denote.Ref.{now}
 use lib.ListN.{length, getD, set, length-set}
 use lib.Seq.{ext-getD, getD-set-same, getD-set-other}
-use Rattle.paper.specs.Layout.{directoryOf}
+use Rattle.model.specs.Layout.{directoryOf}
 use Rattle.view.specs.Kinds.{kindsOf}
 use Rattle.view.proofs.KindsLaw.{length-voted-kinds, kind-read}
 use Rattle.view.proofs.header.vote_kinds.Statement.{statement}

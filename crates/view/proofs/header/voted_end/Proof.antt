@@ -3,8 +3,8 @@ use Prim.Native.Nat.{_-_}
 use native.Mathlib.Omega.{arith}
 use borrow.Author.Needs.{needs}
 use denote.Ref.{now}
-use Rattle.paper.specs.Layout.{directoryBytesOf}
-use Rattle.paper.proofs.LayoutLaw.{offset-in, words-in}
+use Rattle.model.specs.Layout.{directoryBytesOf}
+use Rattle.model.proofs.LayoutLaw.{offset-in, words-in}
 use borrow.Author.Needs.{needs}
 use Rattle.view.proofs.header.voted_end.Statement.{statement}
 use Rattle.view.proofs.header.voted_end.Tie as tie

@@ -7,16 +7,16 @@ use borrow.Author.Needs.{needs}
 use denote.Ref.{now}
 use lib.ListN.{length}
 use mathlib.Core.Option.{none, some}
-use Rattle.paper.specs.Layout.{Entry, directoryOf, end}
-use Rattle.paper.specs.Views.{firstThat, planeFor}
+use Rattle.model.specs.Layout.{Entry, directoryOf, end}
+use Rattle.model.specs.Views.{firstThat, planeFor}
 use Rattle.view.specs.declared.regions.RegionAt.the-variants.{Found}
 use Rattle.view.specs.Answers.{foundAs}
-use Rattle.paper.specs.Views.{range, eccFor}
-use Rattle.paper.specs.Layout.{headerLength}
+use Rattle.model.specs.Views.{range, eccFor}
+use Rattle.model.specs.Layout.{headerLength}
 use Rattle.layout.specs.declared.Region.{Region}
 use Rattle.layout.specs.Regions.{regionOf}
 use Rattle.view.proofs.AnswersLaw.{found-some, found-none}
-use Rattle.view.proofs.SeenLaw.{ecc-short, ecc-none, ecc-past, ecc-there}
+use Rattle.view.proofs.EntriesForLaw.{ecc-short, ecc-none, ecc-past, ecc-there}
 use Rattle.view.proofs.regions.ecc_for.Statement.{statement}
 use Rattle.view.proofs.regions.ecc_for.Tie as tie
 

@@ -4,13 +4,13 @@ use Prim.Native.Nat.{_-_, _≤_}
 use native.Mathlib.Omega.{arith}
 use denote.Ref.{now}
 use lib.ListN.{drop}
-use Rattle.paper.specs.Layout.{directoryOf}
-use Rattle.paper.specs.Views.{firstThat, ofKind}
-use Rattle.paper.proofs.LayoutLaw.{entryIn, walk, walked}
-use Rattle.paper.proofs.WalkLaw.{first-here, first-next, first-end}
+use Rattle.model.specs.Layout.{directoryOf}
+use Rattle.model.specs.Views.{firstThat, ofKind}
+use Rattle.model.proofs.LayoutLaw.{entryIn, walk, walked}
+use Rattle.model.proofs.WalkLaw.{first-here, first-next, first-end}
 use Rattle.view.specs.declared.regions.RegionAt.the-variants.{Found}
 use Rattle.view.specs.Answers.{foundAs}
-use Rattle.view.proofs.SeenLaw.{find-short, find-long, kind-test, kind-test-not}
+use Rattle.view.proofs.EntriesForLaw.{find-short, find-long, kind-test, kind-test-not}
 use Rattle.view.proofs.regions.find_region.Statement.{statement}
 use Rattle.view.proofs.regions.find_region.Tie as tie
 

@@ -4,13 +4,13 @@ use Prim.Native.Nat.{_-_, _≤_}
 use native.Mathlib.Omega.{arith}
 use denote.Ref.{now}
 use lib.ListN.{drop}
-use Rattle.paper.specs.Layout.{directoryOf}
-use Rattle.paper.specs.Views.{firstThat, planeFor}
-use Rattle.paper.proofs.LayoutLaw.{entryIn, walk, walked}
-use Rattle.paper.proofs.WalkLaw.{first-here, first-next, first-end}
+use Rattle.model.specs.Layout.{directoryOf}
+use Rattle.model.specs.Views.{firstThat, planeFor}
+use Rattle.model.proofs.LayoutLaw.{entryIn, walk, walked}
+use Rattle.model.proofs.WalkLaw.{first-here, first-next, first-end}
 use Rattle.view.specs.declared.regions.RegionAt.the-variants.{Found}
 use Rattle.view.specs.Answers.{foundAs}
-use Rattle.view.proofs.SeenLaw.{plane-test}
+use Rattle.view.proofs.EntriesForLaw.{plane-test}
 use Rattle.view.proofs.regions.plane_of.Statement.{statement}
 use Rattle.view.proofs.regions.plane_of.Tie as tie
 

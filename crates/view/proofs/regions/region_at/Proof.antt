@@ -5,7 +5,7 @@ use borrow.Author.Needs.{needs}
 use denote.Ref.{now}
 use Rattle.view.specs.declared.regions.RegionAt.the-variants.{Found}
 use Rattle.view.specs.Answers.{foundAs}
-use Rattle.view.proofs.SeenLaw.{region-short, region-past, region-in}
+use Rattle.view.proofs.EntriesForLaw.{region-short, region-past, region-in}
 use Rattle.view.proofs.regions.region_at.Statement.{statement}
 use Rattle.view.proofs.regions.region_at.Tie as tie
 

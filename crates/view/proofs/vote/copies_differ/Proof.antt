@@ -6,7 +6,7 @@ use native.Mathlib.Omega.{arith}
 use borrow.Author.Needs.{needs}
 use borrow.Author.Count.{below-more}
 use denote.Ref.{now}
-use Rattle.paper.proofs.CopiesLaw.{offAt, differs-none, differs-here}
+use Rattle.model.proofs.CopiesLaw.{offAt, differs-none, differs-here}
 use Rattle.view.proofs.vote.copies_differ.Statement.{statement}
 use Rattle.view.proofs.vote.copies_differ.Tie as tie
 

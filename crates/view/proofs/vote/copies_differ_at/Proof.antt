@@ -4,8 +4,8 @@ use Prim.Native.Nat.{_+_, _-_}
 use borrow.Author.Needs.{needs}
 use borrow.Author.Tests.{eq-eqb, ne-eqb}
 use denote.Ref.{now}
-use Rattle.paper.specs.Bytes.{at}
-use Rattle.paper.proofs.CopiesLaw.{offAt}
+use Rattle.model.specs.Bytes.{at}
+use Rattle.model.proofs.CopiesLaw.{offAt}
 use borrow.Author.Needs.{needs}
 use Rattle.view.proofs.vote.copies_differ_at.Statement.{statement}
 use Rattle.view.proofs.vote.copies_differ_at.Tie as tie

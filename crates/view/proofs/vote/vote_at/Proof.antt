@@ -1,7 +1,7 @@
 -- `view::vote::vote_at` meets its contract. Assumes nothing.
 use mathlib.Core.Path.{sym, _∙_}
 use denote.Ref.{now}
-use Rattle.paper.proofs.LayoutLaw.{at-voted}
+use Rattle.model.proofs.LayoutLaw.{at-voted}
 use borrow.Author.Needs.{needs}
 use Rattle.view.proofs.vote.vote_at.Statement.{statement}
 use Rattle.view.proofs.vote.vote_at.Tie as tie

@@ -8,10 +8,10 @@ use denote.Ref.{now}
 use mathlib.Core.List.{List}
 use lib.ListN.{length, take, set, length-set, length-take}
 use lib.Seq.{ext-getD, getD-take, getD-set-same, getD-set-other}
-use Rattle.paper.specs.Bytes.{at}
-use Rattle.paper.specs.Crc as paper
-use Rattle.paper.specs.Layout.{prologue}
-use Rattle.paper.proofs.LayoutLaw.{length-prologue}
+use Rattle.model.specs.Bytes.{at}
+use Rattle.model.specs.Crc as model
+use Rattle.model.specs.Layout.{prologue}
+use Rattle.model.proofs.LayoutLaw.{length-prologue}
 use Rattle.view.proofs.vote.voted_checksum.Statement.{statement}
 use Rattle.view.proofs.vote.voted_checksum.Tie as tie
 
@@ -50,7 +50,7 @@ returns c =
     let a = c .before .before .before in
     let v = prologue (now (a .before .before .args .bytes)) in
     c .crc32 .ensures .0
-    ∙ ap paper.crc32 (twelve (a .loop .start) v (a .loop .inv .1) (length-prologue (now (a .before .before .args .bytes))) (λ p h. a .loop .inv .2 p (omega arith)))
+    ∙ ap model.crc32 (twelve (a .loop .start) v (a .loop .inv .1) (length-prologue (now (a .before .before .args .bytes))) (λ p h. a .loop .inv .2 p (omega arith)))
 
 pub voted-checksum-spec : {M : Type 1} → statement M
 voted-checksum-spec =

@@ -2,7 +2,7 @@
 use Prim.Native.Nat.{_-_}
 use borrow.Author.Needs.{needs}
 use denote.Ref.{now}
-use Rattle.view.proofs.SeenLaw.{region-read}
+use Rattle.view.proofs.EntriesForLaw.{region-read}
 use Rattle.view.proofs.vote.voted_region.Statement.{statement}
 use Rattle.view.proofs.vote.voted_region.Tie as tie
 

@@ -1,8 +1,8 @@
 -- `view::vote::voted_u16` meets its contract. Assumes nothing.
 use native.Mathlib.Omega.{arith}
 use denote.Ref.{now}
-use Rattle.paper.specs.Layout.{voted}
-use Rattle.paper.proofs.BytesLaw.{places-2}
+use Rattle.model.specs.Layout.{voted}
+use Rattle.model.proofs.BytesLaw.{places-2}
 use borrow.Author.Needs.{needs}
 use Rattle.view.proofs.vote.voted_u16.Statement.{statement}
 use Rattle.view.proofs.vote.voted_u16.Tie as tie

@@ -1,8 +1,8 @@
 -- `view::vote::voted_u32` meets its contract. Assumes nothing.
 use native.Mathlib.Omega.{arith}
 use denote.Ref.{now}
-use Rattle.paper.specs.Layout.{voted}
-use Rattle.paper.proofs.BytesLaw.{read-halves}
+use Rattle.model.specs.Layout.{voted}
+use Rattle.model.proofs.BytesLaw.{read-halves}
 use borrow.Author.Needs.{needs}
 use Rattle.view.proofs.vote.voted_u32.Statement.{statement}
 use Rattle.view.proofs.vote.voted_u32.Tie as tie

@@ -1,13 +1,13 @@
 -- `writer::image::plane_entry` meets its contract. Assumes nothing.
 use Prim.Native.Nat.{_+_}
-use Rattle.paper.specs.Writer.{planeEntry}
+use Rattle.model.specs.Writer.{planeEntry}
 use borrow.Author.Needs.{needs}
 use Rattle.writer.proofs.image.plane_entry.Statement.{statement}
 use Rattle.writer.proofs.image.plane_entry.Tie as tie
 
 returns : tie.Need-returns
 unfolding planeEntry
-returns c = λ j. record { kind = 0x8000 + c .before .kind-of .ensures j; flags = 8; offset = c .before .before .args .offset; words = c .plane-words .ensures j; covers = c .before .kind-of .ensures j; spare = 0 }
+returns c = λ j. record { kind = 0x8000 + c .before .kind-of .ensures j; flags = 8; offset = c .before .before .args .offset; words = c .plane-words .ensures j; covers = c .before .kind-of .ensures j; reserved = 0 }
 
 pub plane-entry-spec : {M : Type 1} → statement M
 plane-entry-spec =

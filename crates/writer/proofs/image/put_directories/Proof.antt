@@ -5,9 +5,9 @@ use native.Mathlib.Omega.{arith}
 use denote.Ref.{now}
 use lib.ListN.{length}
 use mathlib.Core.List.{List, _++_}
-use Rattle.paper.specs.Writer.{Row, rowEntries, planeEntries, entriesBytes}
-use Rattle.paper.specs.Bytes.{thrice}
-use Rattle.paper.proofs.BytesLaw.{length-thrice}
+use Rattle.model.specs.Writer.{Row, rowEntries, planeEntries, entriesBytes}
+use Rattle.model.specs.Bytes.{thrice}
+use Rattle.model.proofs.BytesLaw.{length-thrice}
 use Rattle.writer.specs.Kept.{rowsOf}
 use Rattle.put.proofs.PutLaw.{begin, go-on, last}
 use borrow.Author.Needs.{needs}

@@ -5,9 +5,9 @@ use native.Mathlib.Omega.{arith}
 use denote.Ref.{now}
 use lib.ListN.{length, length-append}
 use mathlib.Core.List.{List, _++_}
-use Rattle.paper.specs.Layout.{Entry}
-use Rattle.paper.specs.Writer.{Row, rowEntries, planeEntries, entriesBytes}
-use Rattle.laws.proofs.ImageLaw.{entriesBytes-append}
+use Rattle.model.specs.Layout.{Entry}
+use Rattle.model.specs.Writer.{Row, rowEntries, planeEntries, entriesBytes}
+use Rattle.lemmas.proofs.ImageLaw.{entriesBytes-append}
 use Rattle.writer.specs.Kept.{rowsOf}
 use Rattle.put.proofs.PutLaw.{Going, begin, go-on, last}
 use borrow.Author.Needs.{needs}

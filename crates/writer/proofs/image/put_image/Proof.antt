@@ -5,10 +5,10 @@ use native.Mathlib.Omega.{arith}
 use denote.Ref.{now}
 use lib.ListN.{length}
 use mathlib.Core.List.{List, _++_}
-use Rattle.paper.specs.Bytes.{thrice}
-use Rattle.paper.specs.Writer.{Row, regions, firstWord, planDirectory, entriesBytes, prologueBytes, planesBytes, planImage, imageLength}
-use Rattle.paper.proofs.BytesLaw.{length-thrice}
-use Rattle.laws.proofs.PlanPairs.{length-planes}
+use Rattle.model.specs.Bytes.{thrice}
+use Rattle.model.specs.Writer.{Row, regions, firstWord, planDirectory, entriesBytes, prologueBytes, planesBytes, planImage, imageLength}
+use Rattle.model.proofs.BytesLaw.{length-thrice}
+use Rattle.lemmas.proofs.PlanCodewords.{length-planes}
 use Rattle.writer.specs.Kept.{rowsOf}
 use Rattle.put.specs.Put.{Put}
 use Rattle.writer.proofs.ImageLaw.{copyOf, copy-is, copy-length, prologues-length, image-length}

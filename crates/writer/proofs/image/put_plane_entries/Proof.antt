@@ -7,7 +7,7 @@ use denote.Ref.{now}
 use lib.ListN.{length, getD}
 use mathlib.Core.List.{List}
 use mathlib.Core.Logic.{⊎-elim}
-use Rattle.paper.specs.Writer.{flagged, planeWords, planeEntry}
+use Rattle.model.specs.Writer.{flagged, planeWords, planeEntry}
 use Rattle.writer.specs.Kept.{kindIn, rowOf}
 use Rattle.put.proofs.PutLaw.{kept-length, carry}
 use Rattle.writer.proofs.EntriesLaw.{PlanesGo, planes-start, plane-room, plane-word, plane-put, plane-skip, planes-done}

@@ -7,9 +7,9 @@ use denote.Ref.{now}
 use lib.ListN.{length, drop, length-drop, getD}
 use mathlib.Core.List.{List}
 use mathlib.Core.Logic.{⊎-elim}
-use Rattle.paper.specs.Writer.{flagged, planeWords, planeBytes}
-use Rattle.paper.proofs.BytesLaw.{part-to-end}
-use Rattle.laws.proofs.PlanPairs.{length-plane}
+use Rattle.model.specs.Writer.{flagged, planeWords, planeBytes}
+use Rattle.model.proofs.BytesLaw.{part-to-end}
+use Rattle.lemmas.proofs.PlanCodewords.{length-plane}
 use Rattle.writer.specs.Kept.{wordsIn, rowOf}
 use Rattle.put.specs.Put.{Put}
 use Rattle.put.proofs.PutLaw.{kept-length, carry}

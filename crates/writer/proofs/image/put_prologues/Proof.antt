@@ -3,9 +3,9 @@ use Prim.Native.Nat.{ℕ}
 use native.Mathlib.Omega.{arith}
 use denote.Ref.{now}
 use mathlib.Core.List.{List, _++_}
-use Rattle.paper.specs.Writer.{prologueBytes}
-use Rattle.paper.specs.Bytes.{thrice}
-use Rattle.laws.proofs.ImageLaw.{length-prologueBytes}
+use Rattle.model.specs.Writer.{prologueBytes}
+use Rattle.model.specs.Bytes.{thrice}
+use Rattle.lemmas.proofs.ImageLaw.{length-prologueBytes}
 use Rattle.writer.proofs.ImageLaw.{prologues-length}
 use Rattle.put.proofs.PutLaw.{begin, go-on, last}
 use borrow.Author.Needs.{needs}

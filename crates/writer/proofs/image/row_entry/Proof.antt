@@ -1,6 +1,6 @@
 -- `writer::image::row_entry` meets its contract. Assumes nothing.
 use borrow.Author.Needs.{needs}
-use Rattle.paper.specs.Writer.{rowEntry}
+use Rattle.model.specs.Writer.{rowEntry}
 use Rattle.writer.proofs.image.row_entry.Statement.{statement}
 use Rattle.writer.proofs.image.row_entry.Tie as tie
 

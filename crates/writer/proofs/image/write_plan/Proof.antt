@@ -5,7 +5,7 @@ use native.Mathlib.Omega.{arith}
 use denote.Ref.{now}
 use lib.ListN.{length, drop, length-take}
 use mathlib.Core.List.{List}
-use Rattle.paper.specs.Writer.{regions}
+use Rattle.model.specs.Writer.{regions}
 use Rattle.writer.specs.Answers.{Answered}
 use Rattle.writer.specs.Kept.{rowsOf, Low, keptRows, Kept, sizesVerdict}
 use Rattle.writer.proofs.AnswerLaw.{rows-refused, rows-many, rows-few}

@@ -4,8 +4,8 @@ use Prim.Native.Nat.{ℕ}
 use denote.Ref.{now}
 use lib.ListN.{length}
 use mathlib.Core.List.{List}
-use Rattle.paper.specs.Refusals.{fine}
-use Rattle.paper.specs.Writer.{Row}
+use Rattle.model.specs.Refusals.{fine}
+use Rattle.model.specs.Writer.{Row}
 use Rattle.writer.specs.Kept.{rowsOf, sizesVerdict}
 use Rattle.writer.proofs.AnswerLaw.{verdict-fine, fine-full, fine-small, fine-room, answered-refused, answered-written}
 use Rattle.writer.proofs.ImageLaw.{image-length}

@@ -4,10 +4,10 @@ use Prim.Native.Nat.{ℕ, _*_, _-_}
 use native.Mathlib.Omega.{arith}
 use borrow.Author.Needs.{needs}
 use denote.Ref.{now}
-use Rattle.paper.specs.Parity.{checkOf}
-use Rattle.paper.specs.Writer.{checks}
+use Rattle.model.specs.Parity.{checkOf}
+use Rattle.model.specs.Writer.{checks}
 use Rattle.scalar.proofs.OrZero.{or-zero-in}
-use Rattle.laws.proofs.PlanPairs.{length-checks, at-checks}
+use Rattle.lemmas.proofs.PlanCodewords.{length-checks, at-checks}
 use Rattle.put.proofs.PutLaw.{kept-length, Bytewise, none-put, byte-room, byte-put, all-put}
 use Rattle.writer.proofs.parts.put_checks.Statement.{statement}
 use Rattle.writer.proofs.parts.put_checks.Tie as tie

@@ -5,8 +5,8 @@ use native.Mathlib.Omega.{arith}
 use denote.Ref.{now}
 use lib.ListN.{length, replicate}
 use mathlib.Core.List.{_++_}
-use Rattle.paper.specs.Writer.{checks, planeWords, planeBytes}
-use Rattle.laws.proofs.PlanPairs.{length-checks, length-plane}
+use Rattle.model.specs.Writer.{checks, planeWords, planeBytes}
+use Rattle.lemmas.proofs.PlanCodewords.{length-checks, length-plane}
 use Rattle.writer.specs.Kept.{wordsIn, rowOf}
 use Rattle.put.specs.Put.{Put}
 use Rattle.put.proofs.PutLaw.{Going, begin, go-on, last}

@@ -5,11 +5,11 @@ use native.Mathlib.Omega.{arith}
 use denote.Ref.{now}
 use lib.ListN.{length, length-append}
 use mathlib.Core.List.{List, _++_}
-use Rattle.paper.proofs.BytesLaw.{length-le}
-use Rattle.paper.specs.Bytes.{le}
-use Rattle.paper.specs.Crc.{crc32}
-use Rattle.paper.specs.Writer.{prologueStart, prologueBytes}
-use Rattle.laws.proofs.ImageLaw.{length-prologueStart}
+use Rattle.model.proofs.BytesLaw.{length-leBytes}
+use Rattle.model.specs.Bytes.{leBytes}
+use Rattle.model.specs.Crc.{crc32}
+use Rattle.model.specs.Writer.{prologueStart, prologueBytes}
+use Rattle.lemmas.proofs.ImageLaw.{length-prologueStart}
 use Rattle.put.specs.Put.{Put}
 use Rattle.put.proofs.PutLaw.{Going, begin, go-on, last, put-read}
 use borrow.Author.Needs.{needs}
@@ -17,11 +17,11 @@ use Rattle.writer.proofs.parts.put_prologue.Statement.{statement}
 use Rattle.writer.proofs.parts.put_prologue.Tie as tie
 
 part-crc32-end : tie.Need-part-crc32-end
-unfolding prologueStart le
+unfolding prologueStart leBytes
 part-crc32-end c = omega (arith, c .before .before .before .put-prologue-start .ensures)
 
 put-u32-requires : tie.Need-put-u32-requires
-unfolding prologueStart le
+unfolding prologueStart leBytes
 put-u32-requires c κs = omega (arith, c .before .before .before .before .before .before .put-prologue-start .ensures)
 
 returns : tie.Need-returns
@@ -32,10 +32,10 @@ returns c =
     let p : ℕ = g .args .at in
     let s : List ℕ = prologueStart (g .args .regions) (g .args .flags) in
     let long : length s ≡ 12 = length-prologueStart (g .args .regions) (g .args .flags) in
-    let g0 : Going o p (prologueBytes (g .args .regions) (g .args .flags)) o p (s ++ le 4 (crc32 s)) = begin o p (s ++ le 4 (crc32 s)) (omega (arith, g .pre, length-append s (le 4 (crc32 s)), length-le 4 (crc32 s))) in
-    let g1 = go-on _ _ s (le 4 (crc32 s)) g0 (c .before .before .before .before .before .before .before .before .before .put-prologue-start .ensures) in
+    let g0 : Going o p (prologueBytes (g .args .regions) (g .args .flags)) o p (s ++ leBytes 4 (crc32 s)) = begin o p (s ++ leBytes 4 (crc32 s)) (omega (arith, g .pre, length-append s (leBytes 4 (crc32 s)), length-leBytes 4 (crc32 s))) in
+    let g1 = go-on _ _ s (leBytes 4 (crc32 s)) g0 (c .before .before .before .before .before .before .before .before .before .put-prologue-start .ensures) in
     let e : c .before .before .before .before .crc32 .result ≡ crc32 s = c .before .before .before .before .crc32 .ensures .0 ∙ ap crc32 (put-read o p s (c .before .before .before .before .before .before .before .before .before .put-prologue-start .ensures) (omega (arith, g .pre))) in
-    last _ _ (le 4 (crc32 s)) g1 (subst (λ (k : ℕ). Put (c .before .before .before .before .before .before .before .before .before .put-prologue-start .last .0) (c .before .before .before .before .before .before .before .before .before .put-prologue-start .result) (le 4 k) (c .before .before .put-u32 .result) (c .before .before .put-u32 .last .0)) e (c .before .before .put-u32 .ensures))
+    last _ _ (leBytes 4 (crc32 s)) g1 (subst (λ (k : ℕ). Put (c .before .before .before .before .before .before .before .before .before .put-prologue-start .last .0) (c .before .before .before .before .before .before .before .before .before .put-prologue-start .result) (leBytes 4 k) (c .before .before .put-u32 .result) (c .before .before .put-u32 .last .0)) e (c .before .before .put-u32 .ensures))
 
 pub put-prologue-spec : {M : Type 1} → statement M
 put-prologue-spec =

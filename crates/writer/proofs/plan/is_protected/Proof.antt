@@ -1,6 +1,6 @@
 -- `writer::plan::is_protected` meets its contract. Assumes nothing.
 use mathlib.Core.Path.{ap, _∙_}
-use Rattle.paper.specs.Layout.{hasParity}
+use Rattle.model.specs.Layout.{hasParity}
 use borrow.Author.Needs.{needs}
 use Rattle.writer.proofs.plan.is_protected.Statement.{statement}
 use Rattle.writer.proofs.plan.is_protected.Tie as tie

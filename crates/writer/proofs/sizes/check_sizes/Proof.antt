@@ -5,8 +5,8 @@ use native.Mathlib.Omega.{arith}
 use denote.Ref.{now}
 use mathlib.Core.List.{List}
 use lib.ListN.{length}
-use Rattle.paper.specs.Refusals.{Verdict}
-use Rattle.paper.specs.Writer.{Row, rowWords, imageLength}
+use Rattle.model.specs.Refusals.{Verdict}
+use Rattle.model.specs.Writer.{Row, rowWords, imageLength}
 use Rattle.writer.specs.Answers.{wrote, refused, answerAs}
 use Rattle.writer.specs.Kept.{rowsOf}
 use Rattle.writer.proofs.SizesLaw.{other-length, too-large, no-room, all-fits}

@@ -7,7 +7,7 @@ use denote.Ref.{now}
 use lib.ListN.{length, drop, getD}
 use mathlib.Core.Logic.{⊎-elim}
 use mathlib.Core.Bool.{Bool, true, false, cond}
-use Rattle.paper.specs.Writer.{Row, flagged, planeWords, planesWords}
+use Rattle.model.specs.Writer.{Row, flagged, planeWords, planesWords}
 use Rattle.writer.specs.Kept.{rowOf, rowsOf}
 use Rattle.writer.proofs.RowsLaw.{planes-next, rows-end}
 use Rattle.writer.proofs.sizes.planes_words.Statement.{statement}

@@ -5,7 +5,7 @@ use native.Mathlib.Omega.{arith}
 use borrow.Author.Needs.{needs}
 use denote.Ref.{now}
 use lib.ListN.{length, drop}
-use Rattle.paper.specs.Writer.{rowWords}
+use Rattle.model.specs.Writer.{rowWords}
 use Rattle.writer.specs.Kept.{rowsOf}
 use Rattle.writer.proofs.RowsLaw.{words-next, rows-end}
 use Rattle.writer.proofs.sizes.row_words.Statement.{statement}

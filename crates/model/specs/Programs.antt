@@ -1,0 +1,93 @@
+-- What the programs print, as ASCII codes. (FORMAT 11)
+use mathlib.Core.Bool.{Bool, true, false, _||_, cond}
+use mathlib.Core.List.{List, [], _∷_, _++_}
+use mathlib.Core.Option.{Option, none, some}
+use Prim.Native.Char.{code}
+use Prim.Native.Nat.{ℕ, zero, suc, _+_, _/_, _%_}
+use Prim.Native.String.{String, [] as empty, _∷_ as _before_}
+use lib.Dec.{ltb}
+use lib.ListN.{length}
+use Rattle.model.specs.Parse.{Parsed, accepted, refused, parse}
+use Rattle.model.specs.Scan.{Report, scan}
+use Rattle.model.specs.Mend.{MendAnswer, refusedMend, mended, mend}
+
+unfoldable pub text : String → List ℕ
+text empty = []
+text (c before s) = code c ∷ text s
+
+abbrev pub digit : ℕ → List ℕ
+digit d = (48 + d) ∷ []
+
+-- n in decimal, of at most so many digits
+unfoldable pub digits : ℕ → ℕ → List ℕ
+digits zero n = []
+digits (suc most) n = cond (ltb n 10) (digit n) (digits most (n / 10) ++ digit (n % 10))
+
+-- no number has more digits than the next number counts
+unfoldable pub decimal : ℕ → List ℕ
+decimal n = digits (suc n) n
+
+-- a text and a number
+unfoldable pub field : String → ℕ → List ℕ
+field s n = text s ++ decimal n
+
+-- ---- the lines, without their line feeds
+
+unfoldable pub tooLong : List ℕ → Bool
+tooLong x = ltb 65536 (length x)
+
+unfoldable pub tooLongLine : List ℕ
+tooLongLine = text "too-long"
+
+unfoldable pub refusedLine : ℕ → ℕ → List ℕ
+refusedLine n d = field "refused " n ++ field " " d
+
+abbrev pub wanted : Bool → String
+wanted true = " scrub yes"
+wanted false = " scrub no"
+
+unfoldable pub regionsLine : ℕ → Bool → List ℕ
+regionsLine n scrub = field "regions " n ++ text (wanted scrub)
+
+unfoldable pub eccLine : Option Report → List ℕ
+eccLine none = text "ecc none"
+eccLine (some r) = field "ecc " (r .words) ++ (field " " (r .corrected) ++ field " " (r .uncorrectable))
+
+unfoldable pub storedLine : ℕ → List ℕ
+storedLine n = field "stored " n
+
+abbrev pub lineFeed : List ℕ
+lineFeed = text "\n"
+
+-- lines one after the other, each with its line feed
+unfoldable pub lines : List (List ℕ) → List ℕ
+lines [] = []
+lines (l ∷ ls) = l ++ (lineFeed ++ lines ls)
+
+-- ---- report: to standard output
+
+abbrev pub linesOf : Parsed → Option Report → List (List ℕ)
+linesOf (accepted h) s = regionsLine (h .regions) (h .prologueDisagreed || h .directoryDisagreed) ∷ eccLine s ∷ []
+linesOf (refused n d) s = refusedLine n d ∷ []
+
+unfoldable pub reportText : List ℕ → List ℕ
+reportText x = lines (cond (tooLong x) (tooLongLine ∷ []) (linesOf (parse x) (scan x)))
+
+-- ---- scrub: the image to standard output, or no byte; one line to standard error
+
+abbrev pub imageOut : MendAnswer → List ℕ
+imageOut (refusedMend n d) = []
+imageOut (mended y r stored whole) = y
+
+abbrev pub lineOf : MendAnswer → List ℕ
+lineOf (refusedMend n d) = refusedLine n d
+lineOf (mended y r stored whole) = storedLine stored
+
+unfoldable pub scrubImage : List ℕ → List ℕ
+scrubImage x = cond (tooLong x) [] (imageOut (mend x))
+
+unfoldable pub scrubLine : List ℕ → List ℕ
+scrubLine x = cond (tooLong x) tooLongLine (lineOf (mend x))
+
+unfoldable pub scrubText : List ℕ → List ℕ
+scrubText x = lines (scrubLine x ∷ [])
