@@ -1,4 +1,4 @@
--- The paper's reading of each answer. (FORMAT 7)
+-- The model's reading of each answer. (FORMAT 7)
 use Prim.Native.Nat.{ℕ}
 use mathlib.Core.Bool.{cond}
 use mathlib.Core.Option.{Option, none, some}

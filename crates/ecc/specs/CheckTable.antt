@@ -26,7 +26,7 @@ pub record Filled (n : ℕ) (t : List ℕ) : Type 0 where
   pub long : length t ≡ 2048
   pub right : (i : ℕ) → i < n → at t i ≡ entryAt i
 
--- ---- by any table: with `checkTable` these are the paper's (`table-check`, `table-outcome` and `table-scan` in proofs/)
+-- ---- by any table: with `checkTable` these are the model's (`table-check`, `table-outcome` and `table-scan` in proofs/)
 
 -- the entry of the byte in place k of word w
 abbrev pub entryFor : List ℕ → ℕ → ℕ → ℕ

@@ -1,4 +1,4 @@
--- A refusal as the paper gives it, its number and its detail, and a check's verdict. (FORMAT 2)
+-- A refusal as the model gives it, its number and its detail, and a check's verdict. (FORMAT 2)
 use Prim.Native.Nat.{ℕ}
 use Rattle.model.specs.Refusals.{truncated, badMagic, foreignEndian, unsupportedVersion, badPrologueChecksum, tooManyRegions, regionOutOfBounds, duplicateRegion, badRecordStride, overflow, tooLarge, overlappingRegions, noRoom, badPlan, Verdict, fine, refuse}
 use Rattle.error.specs.declared.Refusal.{Refusal}

@@ -1,4 +1,4 @@
--- The paper's answers as the numbers that are handed to C. (FORMAT 2, 5, 7, 8, 10)
+-- The model's answers as the numbers that are handed to C. (FORMAT 2, 5, 7, 8, 10)
 use mathlib.Core.Bool.{Bool, _||_}
 use mathlib.Core.List.{List, [], _∷_, _++_}
 use mathlib.Core.Option.{Option, none, some}

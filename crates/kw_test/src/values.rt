@@ -13,11 +13,11 @@ ghost use Rattle.kw_test.specs.Held.{tableOf, strideOf, tableNumbers, pa
 use super::parts::part_numbers;
 use super::reader::place_numbers;
 use super::word_numbers;
-use ecc::EccReport;
-use ecc::PlaneWord;
 use borrowed::EccPlane;
 use borrowed::Pool;
 use borrowed::RecordTable;
+use ecc::EccReport;
+use ecc::PlaneWord;
 use tables::Place;
 
 fn size_answer(len: usize, empty: bool, stride: usize) -> [u64; 3]

@@ -14,6 +14,7 @@ use Rattle.layout.proofs.Region.has_ecc.Reads as has-ecc
 use Rattle.layout.proofs.Region.is_protected.Reads as is-protected
 use Rattle.layout.proofs.words_for.Reads as words-for
 use Rattle.layout.proofs.header_bytes.Reads as header-bytes
+use Rattle.layout.proofs.header_length.Reads as header-length
 
 pub one-size : (a b : Size) → asModel a ≡ asModel b → a ≡ b
 one-size (Of m) (Of n) e = cc
@@ -46,3 +47,6 @@ one-answer-words-for κs a r r′ s s′ p q = one-size r r′ (agree p q)
 
 pub one-answer-header-bytes : OneAnswer header-bytes.Learnt
 one-answer-header-bytes κs a r r′ s s′ p q = one-size r r′ (agree p q)
+
+pub one-answer-header-length : OneAnswer header-length.Learnt
+one-answer-header-length κs a r r′ s s′ p q = agree p q

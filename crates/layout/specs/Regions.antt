@@ -1,4 +1,4 @@
--- A region beside the paper's entry: what code answers for an entry, and what an entry a region stands for.
+-- A region beside the model's entry: what code answers for an entry, and what an entry a region stands for.
 use Rattle.model.specs.Layout.{Entry}
 use Rattle.layout.specs.declared.Region.{Region}
 

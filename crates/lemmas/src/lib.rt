@@ -1,1 +1,1 @@
-// Laws of the paper's definitions that code and demands cite: theorems only.
+// Laws of the model's definitions that code and theorems cite: theorems only.

@@ -58,7 +58,7 @@ pub record MendRule (x y : List ℕ) : Type 0 where
   -- nothing else moves
   pub others : (p : ℕ) → Elsewhere x p → at y p ≡ at x p
 
--- ---- the procedure: refusals, in mend's order (`mend-refuses-exactly` in the crate demands: they are the rule's)
+-- ---- the procedure: refusals, in mend's order (`mend-refuses-exactly` in the crate theorems: they are the rule's)
 
 -- two non-empty regions share a byte
 unfoldable pub meets : Entry → Entry → Bool
@@ -116,7 +116,7 @@ placementOf (refused n d) es = refusedPlacement n d
 unfoldable pub placement : List ℕ → Placement
 placement x = placementOf (parse x) (directory x)
 
--- what it says, as a verdict (`placement-verdict` in the crate laws: it is mend's)
+-- what it says, as a verdict (`placement-verdict` in the crate lemmas: it is mend's)
 abbrev pub placementVerdict : Placement → Verdict
 placementVerdict (placedApart h) = fine
 placementVerdict (overHeader i) = refuse overlappingRegions i

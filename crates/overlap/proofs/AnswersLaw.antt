@@ -1,4 +1,4 @@
--- What an answer says of the paper's placement, and what that says of parse and mend. Assumes nothing.
+-- What an answer says of the model's placement, and what that says of parse and mend. Assumes nothing.
 use mathlib.Core.Path.{_≡_, sym, ap, _∙_, subst}
 use mathlib.Core.List.{List, []}
 use Prim.Native.Nat.{ℕ, _≤_}

@@ -1,4 +1,4 @@
--- The paper's reading of the answers. (FORMAT 10)
+-- The model's reading of the answers. (FORMAT 10)
 use mathlib.Core.Bool.{Bool, true, false}
 use mathlib.Core.Option.{Option, none, some}
 use Prim.Native.Nat.{ℕ}

@@ -1,4 +1,4 @@
--- The kit's digits of a number are the paper's. Assumes nothing.
+-- The kit's digits of a number are the model's. Assumes nothing.
 use mathlib.Core.Path.{_≡_, refl, sym, ap, ap₂, _∙_, subst}
 use mathlib.Core.Bool.{Bool, cond}
 use mathlib.Core.List.{List, [], _∷_, _++_}

@@ -1,2 +1,3 @@
 pub mod PutLaw
 pub mod DecimalLaw
+pub mod OneAnswer

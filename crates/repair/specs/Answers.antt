@@ -1,4 +1,4 @@
--- The paper's reading of mend's answer, and of what it leaves. (FORMAT 10)
+-- The model's reading of mend's answer, and of what it leaves. (FORMAT 10)
 use mathlib.Core.List.{List}
 use Prim.Native.Nat.{ℕ}
 use Rattle.model.specs.Mend as model

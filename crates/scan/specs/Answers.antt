@@ -1,4 +1,4 @@
--- The paper's reading of each answer. (FORMAT 7)
+-- The model's reading of each answer. (FORMAT 7)
 use mathlib.Core.Option.{Option, none, some}
 use Rattle.model.specs.Scan.{Report}
 use Rattle.ecc.specs.Answers.{asReport}

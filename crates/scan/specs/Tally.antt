@@ -10,7 +10,7 @@ use Rattle.model.proofs.ScanLaw.{plus, noReport, anyOf}
 use Rattle.ecc.specs.Answers.{asReport}
 use Rattle.scan.specs.declared.tally.Tally.{Tally}
 
--- the paper's report so far, and whether any region was visited
+-- the model's report so far, and whether any region was visited
 pub record Totals : Type 0 where
   pub any : Bool
   pub report : Report

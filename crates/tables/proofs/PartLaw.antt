@@ -1,4 +1,4 @@
--- A slice that is cut from lent bytes is the very part that the paper's answer names. Assumes nothing.
+-- A slice that is cut from lent bytes is the very part that the model's answer names. Assumes nothing.
 use mathlib.Core.Path.{_≡_, refl, ap, _∙_, subst}
 use mathlib.Core.List.{List, []}
 use Prim.Native.Nat.{ℕ, _+_, _-_}
@@ -13,7 +13,7 @@ pub none-cut : (x : List ℕ) (n : ℕ) → take (n - n) (drop n x) ≡ []
 none-cut x n = let e : n - n ≡ 0 = omega arith in ap (λ (k : ℕ). take k (drop n x)) e
 
 module _ {X : Type 0} (start : X → ℕ) (bytes : X → List ℕ) (lent r : RefT (List ℕ)) {x y : X} where
-  -- the code's answer x is the paper's answer y
+  -- the code's answer x is the model's answer y
   pub carried : x ≡ y → PartAt lent r (start x) (bytes x) → PartAt lent r (start y) (bytes y)
   carried e p = subst (λ (z : X). PartAt lent r (start z) (bytes z)) e p
 

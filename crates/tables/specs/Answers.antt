@@ -1,4 +1,4 @@
--- The paper's reading of each answer. (FORMAT 6)
+-- The model's reading of each answer. (FORMAT 6)
 use mathlib.Core.Option.{Option, none, some}
 use Prim.Native.Nat.{ℕ, _≤_}
 use Rattle.model.specs.Views.{Range, range, Span, span, noSpan}

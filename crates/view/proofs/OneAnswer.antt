@@ -17,7 +17,7 @@ use Rattle.view.proofs.regions.region_at.Reads as region-at
 use Rattle.view.proofs.regions.find_region.Reads as find-region
 use Rattle.view.proofs.regions.ecc_for.Reads as ecc-for
 
--- the header that the paper's stands for
+-- the header that the model's stands for
 abbrev coded : model.Header → Header
 coded h =
     record {

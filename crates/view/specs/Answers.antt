@@ -1,4 +1,4 @@
--- The paper's reading of each answer. (FORMAT 5, 6)
+-- The model's reading of each answer. (FORMAT 5, 6)
 use mathlib.Core.Bool.{Bool, true, false}
 use mathlib.Core.Option.{Option, none, some}
 use Prim.Native.Nat.{ℕ}

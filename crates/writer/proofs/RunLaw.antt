@@ -1,4 +1,4 @@
--- All rows taken, one after the other: the paper's verdict on them, their regions, and the rows kept. Assumes nothing.
+-- All rows taken, one after the other: the model's verdict on them, their regions, and the rows kept. Assumes nothing.
 use mathlib.Core.Path.{_≡_, refl, sym, ap, ap₂, _∙_, subst}
 use mathlib.Core.Bool.{Bool, true, false, _||_, cond}
 use mathlib.Core.List.{List, [], _∷_}

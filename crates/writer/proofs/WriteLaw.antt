@@ -1,4 +1,4 @@
--- From the rows taken one by one to the paper's writer. Assumes nothing.
+-- From the rows taken one by one to the model's writer. Assumes nothing.
 use mathlib.Core.Path.{_≡_, refl, sym, ap, ap₂, _∙_, subst}
 use mathlib.Core.Bool.{Bool, true, false}
 use mathlib.Core.List.{List, [], _∷_}
@@ -85,7 +85,7 @@ module _ (rows : List Row) (state : Checked) (kept : List ℕ) (few : length row
       lowKinds = record { low = λ i. subst (λ (l : List ℕ). kindIn (getD l i 0) < 0x8000) (sym (packed-is h)) (low-packed rows ok i) };
     }
 
-  -- what write_plan answers is the paper's answer
+  -- what write_plan answers is the model's answer
   module _ (payload : List ℕ) (room : ℕ) where
     abbrev rs : List model.Row
     rs = rowsOf (keptRows kept (length rows))

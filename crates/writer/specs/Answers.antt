@@ -1,4 +1,4 @@
--- The rows and the answer as the paper has them, and what the lent output holds afterwards. (FORMAT 9)
+-- The rows and the answer as the model has them, and what the lent output holds afterwards. (FORMAT 9)
 use mathlib.Core.Path.{_≡_}
 use mathlib.Core.List.{List, [], _∷_, _++_}
 use Prim.Native.Nat.{ℕ}
