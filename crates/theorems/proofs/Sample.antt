@@ -6,7 +6,7 @@ use Prim.Native.Nat.{ℕ, zero, _+_, _-_, _*_, _/_, _≤_, _<_}
 use native.Mathlib.Decide.{decLt, ℕ-discrete}
 use native.Mathlib.Omega.{arith}
 use borrow.Author.Tests.{eq-eqb}
-use lib.Dec.{T, eqb, leb, ltb, leb→leBytes, ltb→lt, lit<}
+use lib.Dec.{T, eqb, leb, ltb, leb→le, ltb→lt, lit<}
 use lib.Bits.{bitXor}
 use lib.ListN.{length, drop, set, replicate, length-replicate, List·getD-eq-default}
 use lib.Seq.{getD-drop}
@@ -74,7 +74,7 @@ up-to n f t i h = entry (λ j c. f j) (replicate n 0) t i (omega (arith, length-
 copies-tested : (w d : List ℕ) (base k : ℕ)
     → T (upTo k (λ j. upTo 8 (λ i. leb (off w d (base + j) i + off w d (base + k + j) i + off w d (base + 2 * k + j) i) 1))) → OneCopyOff w d base k
 copies-tested w d base k t j i h l =
-    leb→leBytes (off w d (base + j) i + off w d (base + k + j) i + off w d (base + 2 * k + j) i) 1
+    leb→le (off w d (base + j) i + off w d (base + k + j) i + off w d (base + 2 * k + j) i) 1
     (up-to 8 (λ u. leb (off w d (base + j) u + off w d (base + k + j) u + off w d (base + 2 * k + j) u) 1)
     (up-to k (λ u. upTo 8 (λ v. leb (off w d (base + u) v + off w d (base + k + u) v + off w d (base + 2 * k + u) v) 1)) t j h) i l)
 

@@ -14,7 +14,7 @@ returns c =
     let h = c .before .before .header-of in
     let e : asScan (c .before .verify-region .result)
     ≡ scanRegion (h .result .«region_count») (now (g .bytes)) (entryWith (g .kind) (g .flags) (g .word-offset) (g .word-length) (g .covers)) =
-    c .before .verify-region .ensures .0 in
+    c .before .verify-region .ensures in
     c .scan-numbers .ensures ∙ ap scanAnswer e ∙ rw (h .ensures)
 
 pub kwt-verify-region-spec : {M : Type 1} → statement M
