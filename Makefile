@@ -7,7 +7,7 @@
 #   make soak       the same with a hundred times the random inputs and a seed of its own
 #   make replay     hold ours against the recorded answers; needs no Rust
 #   make programs   report and scrub on every case of tests/answers/programs, and on bad files
-#   make face       the C example on sample images, installed and not; the stack that a call takes
+#   make api        the C example on sample images, installed and not; the stack that a call takes
 #   make bench      time ours beside the Rust
 #   make record     make tests/answers anew from the Rust
 #   make recorded   see that tests/answers is what 'make record' makes
@@ -21,7 +21,7 @@
 MAKEFLAGS += --no-print-directory
 .NOTPARALLEL:
 .DELETE_ON_ERROR:
-.PHONY: all archives test demo compare soak replay programs face bench record recorded install clean help
+.PHONY: all archives test demo compare soak replay programs api bench record recorded install clean help
 
 ifeq ($(strip $(KW_ORACLE)),)
 KW_ORACLE = ../shared/docs/src
@@ -70,8 +70,8 @@ replay: host/build/replay
 programs: $(PROGRAMS)
 	sh tests/programs.sh target/bin
 
-face: host/build/firmware host/build/make_image host/build/stack host/build/replay
-	sh tests/face.sh $(KW_LIB)
+api: host/build/firmware host/build/make_image host/build/stack host/build/replay
+	sh tests/api.sh $(KW_LIB)
 
 bench: host/build/bench
 	host/build/bench

@@ -1,7 +1,7 @@
 #!/bin/sh
 # The gate, called by 'make test'. Every part runs, whatever became of the one before it. The last
 # line, 'N passed, M failed', counts what rt proved and refused, the cases compared, the lines
-# replayed, and the cases of the programs and of the C face. A part that fails, leaves no count or
+# replayed, and the cases of the programs and of the C API. A part that fails, leaves no count or
 # counts nothing is a failure; the exit status is 0 only if M is 0.
 set -u
 cd "$(dirname "$0")/.." || exit 2
@@ -78,8 +78,8 @@ count 'programs ([0-9]+) passed, ([0-9]+) failed'
 part demo make demo
 must_end_well
 
-part face make face
-count 'face ([0-9]+) passed, ([0-9]+) failed'
+part api make api
+count 'api ([0-9]+) passed, ([0-9]+) failed'
 
 echo "== the gate took $(($(date +%s) - gate_began)) s"
 echo "$passed passed, $failed failed"

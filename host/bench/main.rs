@@ -6,9 +6,9 @@
 #[path = "../compare/ffi.rs"]
 #[allow(dead_code)] // the comparison uses the rest
 mod ffi;
-#[path = "../compare/ffi_face.rs"]
+#[path = "../compare/ffi_api.rs"]
 #[allow(dead_code)]
-mod ffi_face;
+mod ffi_api;
 #[path = "../compare/ffi_reader.rs"]
 #[allow(dead_code)]
 mod ffi_reader;
@@ -132,7 +132,7 @@ fn parse_1_024_regions() -> bool {
         RUST,
         0.02,
         ROUNDS,
-        || ffi_face::parse(black_box(&image)),
+        || ffi_api::parse(black_box(&image)),
         || {
             let view = WireView::parse(black_box(&image)).expect("a good image");
             (0, [view.region_count().into(), view.needs_scrub().into()])
@@ -149,7 +149,7 @@ fn scrub_1_024_regions() -> bool {
         RUST,
         0.001,
         1,
-        || ffi_face::scrub_in_place(black_box(&mut ours)),
+        || ffi_api::scrub_in_place(black_box(&mut ours)),
         || (0, report(keleusma_wire::scrub(black_box(&mut rusts)))),
     )
 }
@@ -169,7 +169,7 @@ fn scan_image(work: &str, bar: f64, calls: usize, image: &[u8]) -> bool {
         RUST,
         bar,
         ROUNDS,
-        || last_of(calls, || ffi_face::scan(black_box(image))),
+        || last_of(calls, || ffi_api::scan(black_box(image))),
         || {
             last_of(calls, || {
                 let view = WireView::parse(black_box(image)).expect("a good image");
@@ -201,7 +201,7 @@ fn scrub_image_of_900_000_words() -> bool {
         RUST,
         0.2,
         ROUNDS,
-        || ffi_face::scrub_in_place(black_box(&mut ours)),
+        || ffi_api::scrub_in_place(black_box(&mut ours)),
         || (0, report(keleusma_wire::scrub(black_box(&mut rusts)))),
     )
 }
@@ -215,7 +215,7 @@ fn mend_clean_900_000_words() -> bool {
         1.5,
         ROUNDS,
         || mend(black_box(&mut mended)),
-        || ffi_face::scan(black_box(&image)),
+        || ffi_api::scan(black_box(&image)),
     )
 }
 
@@ -237,7 +237,7 @@ fn mend_900_000_words() -> bool {
             flip(&mut mended);
             mend(black_box(&mut mended))
         },
-        || ffi_face::scan(black_box(&damaged)),
+        || ffi_api::scan(black_box(&damaged)),
     )
 }
 
@@ -250,7 +250,7 @@ fn mend_1_024_regions() -> bool {
         1.5,
         ROUNDS,
         || mend(black_box(&mut mended)),
-        || ffi_face::scan(black_box(&image)),
+        || ffi_api::scan(black_box(&image)),
     )
 }
 
@@ -262,9 +262,9 @@ fn lie_apart_1_024_regions() -> bool {
     for _ in 0..20 * ROUNDS {
         let (mend_answer, took) = time(&mut || mend(black_box(&mut mended)));
         mends = mends.min(took);
-        let (scan_answer, took) = time(&mut || ffi_face::scan(black_box(&image)));
+        let (scan_answer, took) = time(&mut || ffi_api::scan(black_box(&image)));
         scans = scans.min(took);
-        parses = parses.min(time(&mut || ffi_face::parse(black_box(&image))).1);
+        parses = parses.min(time(&mut || ffi_api::parse(black_box(&image))).1);
         assert!(mend_answer == scan_answer);
     }
     print_row("the same, less what the scan takes", PARSE, 1.0, mends.saturating_sub(scans), parses)
@@ -284,13 +284,13 @@ fn lie_apart(work: &str, order: fn(u32) -> u32) -> bool {
         8.0,
         20 * ROUNDS,
         || mend(black_box(&mut mended)).0,
-        || ffi_face::parse(black_box(&image)).0,
+        || ffi_api::parse(black_box(&image)).0,
     )
 }
 
 /// The number and the report.
 fn mend(image: &mut [u8]) -> (u32, [u64; 4]) {
-    let (number, [some, words, corrected, beyond, _, _]) = ffi_face::mend_in_place(image);
+    let (number, [some, words, corrected, beyond, _, _]) = ffi_api::mend_in_place(image);
     (number, [some, words, corrected, beyond])
 }
 

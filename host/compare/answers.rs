@@ -50,12 +50,12 @@ fn marks(bytes: &[u8], view: &WireView) -> [bool; 2] {
 }
 
 /// What libkw.a answers to a parse: a number, and {count, scrub wanted} or {detail, 0}.
-pub fn face_numbers([number, first, prologue, directory]: [u64; 4]) -> (u32, [u64; 2]) {
+pub fn api_numbers([number, first, prologue, directory]: [u64; 4]) -> (u32, [u64; 2]) {
     (number as u32, [first, if number == 0 { prologue | directory } else { 0 }])
 }
 
 /// What libkw.a answers to a scan: a number, and the report's numbers or {detail, 0, 0, 0}.
-pub fn face_scan(parsed: &Result<WireView, WireError>) -> (u32, [u64; 4]) {
+pub fn api_scan(parsed: &Result<WireView, WireError>) -> (u32, [u64; 4]) {
     match parsed {
         Ok(view) => (0, report_numbers(view.verify_all())),
         Err(error) => {

@@ -9,7 +9,7 @@ mod answers;
 mod crc;
 mod ecc;
 mod ffi;
-mod ffi_face;
+mod ffi_api;
 mod ffi_held;
 mod ffi_reader;
 mod held;

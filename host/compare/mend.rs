@@ -5,7 +5,7 @@ use crate::inputs::{hex, Entry, Random};
 use crate::mending;
 use crate::plan::{self, Row};
 use crate::tally::Group;
-use crate::{ffi_face as ours, Run};
+use crate::{ffi_api as ours, Run};
 
 pub fn compare(run: &mut Run) {
     let mut seen = Seen::default();

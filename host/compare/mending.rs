@@ -1,7 +1,7 @@
 //! Document 01's Mend, read without a look at our mend: positions of bytes and what becomes of each.
 //! The Rust has no mend; it is asked for what the paper takes from it, parse, decoding and scrub.
 
-use crate::answers::{face_scan, report_numbers};
+use crate::answers::{api_scan, report_numbers};
 use crate::inputs::Entry;
 use keleusma_wire::ecc::{check_byte, decode_word, WordStatus};
 use keleusma_wire::WireView;
@@ -12,7 +12,7 @@ pub type Mending = (u32, [u64; 6], Vec<u8>);
 pub fn mend(bytes: &[u8]) -> Mending {
     let parsed = WireView::parse(bytes);
     let Ok(view) = &parsed else {
-        let (number, answer) = face_scan(&parsed);
+        let (number, answer) = api_scan(&parsed);
         return refused(bytes, number, answer[0]);
     };
     let count = view.region_count() as usize;

@@ -1,11 +1,11 @@
 //! Crate `scan`: one region against its plane, and the whole scan.
 
-use crate::answers::{entry, face_scan, report_numbers, three_numbers};
+use crate::answers::{entry, api_scan, report_numbers, three_numbers};
 use crate::images::{self, plane, protected, FAMILIES};
 use crate::inputs::{hex, image, Entry, Random, RegionMaker};
 use crate::tally::Group;
 use crate::view::other_bytes;
-use crate::{ffi_face as face, ffi_reader as ours, paper, Run};
+use crate::{ffi_api as api, ffi_reader as ours, paper, Run};
 use keleusma_wire::WireView;
 
 pub fn compare(run: &mut Run) {
@@ -32,7 +32,7 @@ pub fn compare(run: &mut Run) {
 fn same(group: &mut Group, maker: &RegionMaker, random: &mut Random, bytes: &[u8]) {
     let input = || hex(&bytes[..bytes.len().min(2000)]);
     let parsed = WireView::parse(bytes);
-    group.same(face::scan(bytes), face_scan(&parsed), || format!("kw_scan {}", input()));
+    group.same(api::scan(bytes), api_scan(&parsed), || format!("kw_scan {}", input()));
     let Ok(view) = parsed else { return };
     let count = view.region_count();
     group.same(ours::verify_all(bytes, count), report_numbers(view.verify_all()), || {

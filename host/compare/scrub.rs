@@ -4,7 +4,7 @@ use crate::answers::report_numbers;
 use crate::images::{self, FAMILIES};
 use crate::inputs::hex;
 use crate::tally::Group;
-use crate::{ffi_face as face, ffi_reader as ours, Run};
+use crate::{ffi_api as api, ffi_reader as ours, Run};
 use keleusma_wire::WireView;
 
 pub fn compare(run: &mut Run) {
@@ -58,7 +58,7 @@ fn same(group: &mut Group, seen: &mut Seen, bytes: &[u8]) {
     let input = || hex(&bytes[..bytes.len().min(2000)]);
     let (answer, ours_left) = ours::scrub(bytes);
     group.same((answer, &ours_left), (report, &left), || format!("scrub {}", input()));
-    let (number, answer, ours_left) = face::scrub(bytes);
+    let (number, answer, ours_left) = api::scrub(bytes);
     group
         .same((number, answer, &ours_left), (0, report, &left), || format!("kw_scrub {}", input()));
 }

@@ -1,10 +1,10 @@
 //! Crate `view`: parse, and the lookups on the image that was parsed and on other bytes.
 
-use crate::answers::{entry, entry_numbers, face_numbers, parse_numbers, place_in, place_numbers};
+use crate::answers::{entry, entry_numbers, api_numbers, parse_numbers, place_in, place_numbers};
 use crate::images::{self, FAMILIES};
 use crate::inputs::{hex, Entry, RegionMaker};
 use crate::tally::Group;
-use crate::{ffi_face as face, ffi_reader as ours, paper, Run};
+use crate::{ffi_api as api, ffi_reader as ours, paper, Run};
 use keleusma_wire::WireView;
 
 pub fn compare(run: &mut Run) {
@@ -33,7 +33,7 @@ fn same(group: &mut Group, maker: &RegionMaker, bytes: &[u8]) -> usize {
     let rusts = WireView::parse(bytes);
     let parsed = parse_numbers(bytes, &rusts);
     group.same(ours::parse(bytes), parsed, || format!("parse {}", input()));
-    group.same(face::parse(bytes), face_numbers(parsed), || format!("kw_parse {}", input()));
+    group.same(api::parse(bytes), api_numbers(parsed), || format!("kw_parse {}", input()));
     let Ok(view) = rusts else { return parsed[0] as usize };
     let count = view.region_count();
     let entries: Vec<Entry> = (0..count).filter_map(|i| view.region_at(i)).map(entry).collect();

@@ -1,8 +1,8 @@
 #!/bin/sh
-# The C face as its users meet it, called by 'make face' with the archive: the example is run on the
+# The C API as its users meet it, called by 'make api' with the archive: the example is run on the
 # images of tests/answers/programs, which must give tests/firmware.txt, plainly, under valgrind, with the
 # sanitizers, and built against an installed copy; the replay is run under valgrind; the stack that a
-# call takes is measured. The last line is 'face N passed, M failed'; exit status 0 only if M is 0.
+# call takes is measured. The last line is 'api N passed, M failed'; exit status 0 only if M is 0.
 set -u
 library=$1
 work=$(mktemp -d) || exit 2
@@ -17,17 +17,17 @@ holds() { # NAME COMMAND...
     name=$1
     shift
     if "$@" >"$work/out" 2>&1; then
-        echo "face: $name"
+        echo "api: $name"
         passed=$((passed + 1))
     else
-        echo "face: $name FAILED"
+        echo "api: $name FAILED"
         cat "$work/out"
         failed=$((failed + 1))
     fi
 }
 
 left_out() { # TOOL
-    ! command -v "$1" >/dev/null && echo "face: no $1 here, its case is left out"
+    ! command -v "$1" >/dev/null && echo "api: no $1 here, its case is left out"
 }
 
 # The example, called by the given words, says of every image what is expected.
@@ -78,12 +78,12 @@ holds "the same with the sanitizers" sanitized
 left_out g++ || holds "the header is C++ too" g++ -Wall -Wextra -Werror -fsyntax-only -x c++ include/kw.h
 holds "the archive needs memset alone" needs_memset_alone
 holds "no call takes more stack than kw.h says" host/build/stack
-sed 's/^/face:   /' "$work/out"
+sed 's/^/api:   /' "$work/out"
 left_out pkg-config || holds "the same built against an installed copy" installed
 left_out valgrind || {
     holds "the same under valgrind" says $memory host/build/firmware
     holds "a written image under valgrind" written $memory host/build/make_image
     holds "the replay under valgrind" $memory host/build/replay tests/answers/*.txt
 }
-echo "face $passed passed, $failed failed"
+echo "api $passed passed, $failed failed"
 [ "$failed" -eq 0 ]
