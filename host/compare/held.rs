@@ -1,4 +1,4 @@
-//! Crate `held`: every method of a table, a pool and a plane, beside the Rust's of the same name.
+//! Crate `borrowed`: every method of a table, a pool and a plane, beside the Rust's of the same name.
 //!
 //! Where the Rust makes no table ours is the one without bytes, of stride 0: it has no records.
 

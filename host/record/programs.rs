@@ -1,7 +1,7 @@
 //! What the programs are run on, and what they have to print: report by the Rust's answers, scrub by
 //! our reading of document 01.
 
-use crate::answers::{face_numbers, face_scan, parse_numbers};
+use crate::answers::{api_numbers, api_scan, parse_numbers};
 use crate::images::{self, plain};
 use crate::inputs::{self, Random};
 use crate::mending;
@@ -56,7 +56,7 @@ fn spoiled(prologues: &[u8], at: usize) -> Vec<u8> {
 
 fn case(name: &'static str, input: Vec<u8>) -> Case {
     let parsed = WireView::parse(&input);
-    let report = match (face_numbers(parse_numbers(&input, &parsed)), face_scan(&parsed).1) {
+    let report = match (api_numbers(parse_numbers(&input, &parsed)), api_scan(&parsed).1) {
         ((0, [count, wanted]), [some, words, corrected, beyond]) => {
             let wanted = ["no", "yes"][wanted as usize];
             let ecc = format!("{words} {corrected} {beyond}");

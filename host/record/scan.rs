@@ -1,4 +1,4 @@
-use crate::answers::{entry, face_scan, report_numbers};
+use crate::answers::{entry, api_scan, report_numbers};
 use crate::image::{image_text, spaced};
 use crate::images::{self, plain, plane, protected};
 use crate::inputs::{Entry, Random, RegionMaker};
@@ -46,7 +46,7 @@ fn planes() -> Vec<Vec<Entry>> {
 fn scans(lines: &mut Vec<String>, bytes: &[u8]) {
     let text = image_text(bytes);
     let parsed = WireView::parse(bytes);
-    let (number, answer) = face_scan(&parsed);
+    let (number, answer) = api_scan(&parsed);
     lines.push(format!("kw_scan {text} -> {number} {}", spaced(answer)));
     let Ok(view) = parsed else { return };
     let count = view.region_count();

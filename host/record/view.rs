@@ -1,5 +1,5 @@
 use crate::answers::{
-    entry, entry_numbers, face_numbers, parse_numbers, part_numbers, place_in, place_numbers,
+    entry, entry_numbers, api_numbers, parse_numbers, part_numbers, place_in, place_numbers,
 };
 use crate::image::{image_text, spaced};
 use crate::images::{self, plain, plane, protected};
@@ -29,7 +29,7 @@ pub fn lines() -> Vec<String> {
 fn parse(lines: &mut Vec<String>, text: &str, bytes: &[u8]) {
     let numbers = parse_numbers(bytes, &WireView::parse(bytes));
     lines.push(format!("parse {text} -> {}", spaced(numbers)));
-    let (number, answer) = face_numbers(numbers);
+    let (number, answer) = api_numbers(numbers);
     lines.push(format!("kw_parse {text} -> {number} {}", spaced(answer)));
 }
 
