@@ -1,13 +1,15 @@
 /* kw: reads, scans, repairs and writes images of the keleusma-wire container (docs/FORMAT.md).
 
-   Every function takes any bytes of any length, and returns. It reads and writes nothing but the image
-   and the answer that it is given, keeps nothing between calls and allocates nothing; the stack that a
-   call takes is named below. Every number of `answer` is written at every call. What each function
+   Every function takes any bytes of any length, and returns. It reads and writes nothing but what
+   it is given, keeps nothing between calls and allocates nothing; the stack that a call takes is named
+   below. Every number of `answer` is written at every call. What each function
    promises is proved in crates/kw.
 
-   The caller sees to it that `image` points to `len` bytes, and `answer` to as many numbers as stand in
-   its brackets; that the two share no byte and nothing else writes to them during the call; and that
-   neither is NULL, even where `len` is 0. Of a C library the archive needs `memset` alone. */
+   The caller sees to it that each pointer points to as many bytes, rows or numbers as are said, and
+   `answer` to as many numbers as stand in its brackets; that what a call writes (`image` of kw_scrub and
+   kw_mend, `out`, `answer`) shares no byte with anything else it is given, and that nothing else writes
+   to any of it during the call; that `rows` is aligned for `kw_row`; and that no pointer is NULL, even
+   where its length is 0. Of a C library the archive needs `memset` alone. */
 #ifndef KW_H
 #define KW_H
 
@@ -93,7 +95,7 @@ uint32_t kw_scrub(uint8_t *image, size_t len, uint64_t answer[4]);
 /* Refuses as parse does, then with KW_OVERLAPPING_REGIONS where a region that isn't empty starts inside
    the header or shares a byte with an earlier one. Otherwise makes all header copies what most of them
    say, repairs the words that one flipped bit explains and their check bytes, and changes nothing else:
-   a word beyond repair keeps its data and its check byte. Answers {1, words, corrected, uncorrectable,
+   an uncorrectable word keeps its data and its check byte. Answers {1, words, corrected, uncorrectable,
    stored, whole}, the first four 0 where scan answers zeros; or {detail, 0, 0, 0, 0, 0}. `stored` is the
    number of bytes that changed; `whole` is 1 exactly if answer[0] is 1 and no word is uncorrectable, and
    says nothing about regions without a plane.

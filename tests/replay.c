@@ -1,4 +1,4 @@
-/* Replays recorded answers, of the Rust and for mend and the writer of our own readings of document 01,
+/* Replays recorded answers, of the Rust and for mend and the writer of our own readings of docs/FORMAT.md,
    against libkw_test.a and libkw.a.
 
    usage: replay FILE...

@@ -18,7 +18,7 @@ fn refusal(error: &WireError) -> [u64; 2] {
         WireError::BadRecordStride => [9, 0],
         WireError::Overflow => [10, 0],
         WireError::TooLarge => [11, 0],
-        _ => panic!("a refusal that document 01 doesn't have"),
+        _ => panic!("a refusal that docs/FORMAT.md doesn't have"),
     }
 }
 

@@ -84,7 +84,7 @@ pub fn planned(random: &mut Random, rows: &[(u16, u16, u32)]) -> Vec<u8> {
     sealed(random, &entries, 8 * at as usize)
 }
 
-/// Several good images: of an empty plan, of document 01's row, of some rows with and without a
+/// Several good images: of an empty plan, of docs/FORMAT.md's row, of some rows with and without a
 /// plane, with header copies that are outvoted, with bytes after all regions.
 pub fn good(random: &mut Random) -> Vec<Vec<u8>> {
     let rows = [(1, 2, 3), (2, 0, 1), (7, 2, 9)];

@@ -1,5 +1,5 @@
 //! Document 01's Mend, read without a look at our mend: positions of bytes and what becomes of each.
-//! The Rust has no mend; it is asked for what the paper takes from it, parse, decoding and scrub.
+//! The Rust has no mend; it is asked for what FORMAT 10 takes from it, parse, decoding and scrub.
 
 use crate::answers::{api_scan, report_numbers};
 use crate::inputs::Entry;

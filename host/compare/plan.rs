@@ -1,4 +1,4 @@
-//! The writer's rules read off document 01's "Writer and plan", without a look at our writer: the
+//! The writer's rules read off docs/FORMAT.md's "Writer and plan", without a look at our writer: the
 //! first refusal, or the image made of a list of entries and of what lies at each one's place.
 
 use crate::inputs::{image, Entry};

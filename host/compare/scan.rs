@@ -53,7 +53,7 @@ fn same(group: &mut Group, maker: &RegionMaker, random: &mut Random, bytes: &[u8
     }
 }
 
-/// With a count that the bytes weren't parsed to, held against the reading of document 01.
+/// With a count that the bytes weren't parsed to, held against the reading of docs/FORMAT.md.
 fn compare_other_bytes(run: &mut Run) {
     let all = other_bytes(run);
     run.tally.group("scan_other_bytes", |group| {

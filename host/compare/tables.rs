@@ -121,7 +121,7 @@ fn same_record(g: &mut Group, bytes: &[u8], stride: usize, index: usize, rusts: 
     g.same(ours::record_bytes(bytes, stride, index), part_numbers(rusts), input);
 }
 
-/// Strides that the Rust makes no table of, held against document 01: record i is at i x stride, and a
+/// Strides that the Rust makes no table of, held against docs/FORMAT.md: record i is at i x stride, and a
 /// stride of 0 has no records.
 fn compare_strides_by_hand(run: &mut Run) {
     let bytes = run.random.bytes(60);

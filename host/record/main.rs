@@ -2,7 +2,7 @@
 //!
 //! usage: record FOLDER
 //!
-//! It calls the oracle alone, and for what the oracle has not, our readings of document 01: for mend,
+//! It calls the oracle alone, and for what the oracle has not, our readings of docs/FORMAT.md: for mend,
 //! for the writer, and for bytes beside a count that is not theirs (pairs). The folder `programs` in it
 //! has what the programs, and host/example, are run on: NAME.kw, what report prints of it, what scrub
 //! writes, and its line. Otherwise one file for each of our crates, one case a line: function,
@@ -75,15 +75,15 @@ fn main() {
 
 const MADE: &str =
     "# Answers of the unchanged Rust, made by 'make record' (host/record), not by hand.";
-const MENDED: &str = "# The Rust has no mend: answers of our own reading of document 01, which asks \
+const MENDED: &str = "# The Rust has no mend: answers of our own reading of docs/FORMAT.md, which asks \
     the Rust for parse and\n# decoding (host/compare/mending.rs), made by 'make record', not by hand.";
 const HELD: &str =
     "# Answers of the unchanged Rust, made by 'make record' (host/record), not by hand. \
     Of bytes that it\n# makes no table of: no records, empty, stride 0 (docs/DIFFERENCES.md).";
 const PAIRED: &str = "# Bytes beside a count that is not theirs, which the Rust can't be asked: answers of \
-    our own reading of\n# document 01, which asks the Rust for decoding (host/compare/paper.rs), made by \
+    our own reading of\n# docs/FORMAT.md, which asks the Rust for decoding (host/compare/paper.rs), made by \
     'make record', not by\n# hand.";
-const WRITTEN: &str = "# The Rust has no such writer: answers of our own reading of document 01, which \
+const WRITTEN: &str = "# The Rust has no such writer: answers of our own reading of docs/FORMAT.md, which \
     asks the Rust for\n# checksums and check bytes (host/compare/plan.rs), made by 'make record', not by hand.";
 
 fn write(folder: &str, name: &str, lines: Vec<String>) {

@@ -1,5 +1,5 @@
 //! Lookups and scans on bytes beside a count that is not theirs, which the Rust's view can't be asked:
-//! answers of our reading of document 01 (paper.rs).
+//! answers of our reading of docs/FORMAT.md (paper.rs).
 
 use crate::answers::{entry_numbers, place_numbers, three_numbers};
 use crate::image::{image_text, spaced};

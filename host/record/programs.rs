@@ -1,5 +1,5 @@
 //! What the programs are run on, and what they have to print: report by the Rust's answers, scrub by
-//! our reading of document 01.
+//! our reading of docs/FORMAT.md.
 
 use crate::answers::{api_numbers, api_scan, parse_numbers};
 use crate::images::{self, plain};

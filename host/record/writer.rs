@@ -1,4 +1,4 @@
-//! Plans at each limit of document 01's "Writer and plan", and what its reading in plan.rs makes of them.
+//! Plans at each limit of docs/FORMAT.md's "Writer and plan", and what its reading in plan.rs makes of them.
 //!
 //! The output's bytes are part of every answer, those behind the image and those of a refused plan too.
 

@@ -1,4 +1,4 @@
--- Examined words as a list of pairs: who is among them, and where they lie. Assumes nothing.
+-- The list of codewords: which are in it, and where they lie. Assumes nothing.
 use mathlib.Core.Path.{_≡_, refl, sym, ap₂, _∙_}
 use mathlib.Core.List.{List, [], _∷_, _++_}
 use mathlib.Core.Logic.{_⊎_, inl, inr}

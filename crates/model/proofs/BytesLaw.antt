@@ -13,7 +13,7 @@ use lib.ListN.{length, getD, drop, length-append, List·getD-append, length-drop
 use lib.Seq.{getD-append-add, getD-drop, take-all}
 use Rattle.model.specs.Bytes.{part, at, read, readIn, leBytes, tabulate, thrice, Bytes}
 
--- ---- tab
+-- ---- tabulate
 
 pub length-tabulate {ℓ} : {A : Type ℓ} (n : ℕ) (f : ℕ → A) → length (tabulate n f) ≡ n
 unfolding tabulate

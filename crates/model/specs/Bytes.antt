@@ -20,7 +20,7 @@ abbrev pub given {ℓ} : {A : Type ℓ} → Bool → A → Option A
 given true a = some a
 given false a = none
 
--- the same for a caller that may ask past the end: then nothing
+-- the number in the k bytes from p on; nothing where they reach past the end
 unfoldable pub readIn : ℕ → List ℕ → ℕ → Option ℕ
 readIn k x p = given (leb (p + k) (length x)) (read k x p)
 

@@ -38,7 +38,7 @@ unfoldable pub sent : List ℕ → List Bool
 sent [] = []
 sent (b ∷ bs) = bitsLow 8 b ++ sent bs
 
--- m with further coefficients below: the bit sent first is the highest
+-- m with the bits put behind it as lower coefficients: the bit sent first is the highest
 unfoldable pub poly : ℕ → List Bool → ℕ
 poly m [] = m
 poly m (b ∷ bs) = poly (bitXor (m * 2) (num b)) bs

@@ -106,7 +106,7 @@ start e = 8 * e .offset
 abbrev pub end : Entry → ℕ
 end e = 8 * (e .offset + e .words)
 
--- what a byte count rounds up to in words, and the header's length, where the number of 64 bits holds them
+-- a byte count rounded up to words, and a header's length; nothing where 64 bits do not hold n + 7, or that length
 unfoldable pub wordsFor : ℕ → Option ℕ
 wordsFor n = given (ltb (n + 7) (2 ^ 64)) ((n + 7) / 8)
 
@@ -115,7 +115,7 @@ headerBytes n = given (ltb (headerLength n) (2 ^ 64)) (headerLength n)
 
 -- ---- scrub wanted: some copy byte differs from its voted byte
 
--- some byte of the second list differs from the first list's at its place
+-- some byte of the first list differs from the second list's at its place, or the second list ends before it
 unfoldable pub differs : List ℕ → List ℕ → Bool
 differs [] x = false
 differs (v ∷ vs) [] = true

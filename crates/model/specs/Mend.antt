@@ -1,4 +1,4 @@
--- Laid apart, and mend: first the rules as the document states them, then the procedures that meet them. (FORMAT 10)
+-- Laid apart, and mend: first the rules as FORMAT 10 states them, then the procedures that meet them. (FORMAT 10)
 use mathlib.Core.Path.{_≡_}
 use mathlib.Core.Bool.{Bool, true, false, not, _&&_, _||_, cond}
 use mathlib.Core.List.{List, [], _∷_, _++_}
@@ -33,7 +33,7 @@ pub data Misplaced (n : ℕ) (es : List Entry) (i : ℕ) : Type 0 where
   onHeader : (e : Entry) → nth i es ≡ some e → 0 < e .words → start e < headerLength n → Misplaced n es i
   onEarlier : (j : ℕ) → j < i → (e f : Entry) → nth i es ≡ some e → nth j es ≡ some f → (b : ℕ) → InRegion e b → InRegion f b → Misplaced n es i
 
--- no earlier entry is
+-- entry i is misplaced, and no earlier entry is
 pub record FirstMisplaced (n : ℕ) (es : List Entry) (i : ℕ) : Type 0 where
   pub here : Misplaced n es i
   pub first : (j : ℕ) → j < i → Misplaced n es j → ⊥
@@ -123,7 +123,7 @@ placementVerdict (overHeader i) = refuse overlappingRegions i
 placementVerdict (overRegion i j) = refuse overlappingRegions i
 placementVerdict (refusedPlacement n d) = refuse n d
 
--- ---- the procedure: one examined word after the other (`mend-is-the-rule` there: it leaves what the rule says, and nothing else meets the rule)
+-- ---- the procedure: one examined word after the other (`mend-is-the-rule` in the crate theorems: it leaves what the rule says, and nothing else meets the rule)
 
 -- a corrected word is written with its check byte
 abbrev pub storedCodeword : Class → Codeword → List ℕ → List ℕ
@@ -151,7 +151,7 @@ pub record Change : Type 0 where
   pub old : ℕ
   pub new : ℕ
 
--- from position p on, rising
+-- the bytes that differ between two lists, in ascending order; the first stands at position p
 unfoldable pub changesFrom : ℕ → List ℕ → List ℕ → List Change
 changesFrom p [] y = []
 changesFrom p (b ∷ x) [] = []

@@ -24,7 +24,7 @@ pub record OnHeader (n : ℕ) (es : List Entry) (i : ℕ) : Type 0 where
   pub holds : 0 < entry .words
   pub inside : start entry < headerLength n
 
--- entry i does not, and shares a byte with entry j, which is earlier; with none below j it shares one
+-- entry i does not start inside the header; it shares a byte with the earlier entry j, and with none before j
 pub record OnRegion (n : ℕ) (es : List Entry) (i j : ℕ) : Type 0 where
   pub entry : Entry
   pub other : Entry

@@ -23,7 +23,7 @@ unfoldable pub digits : ℕ → ℕ → List ℕ
 digits zero n = []
 digits (suc most) n = cond (ltb n 10) (digit n) (digits most (n / 10) ++ digit (n % 10))
 
--- no number has more digits than the next number counts
+-- n has at most n + 1 digits
 unfoldable pub decimal : ℕ → List ℕ
 decimal n = digits (suc n) n
 

@@ -18,11 +18,13 @@ pub record Report : Type 0 where
   pub corrected : ℕ
   pub uncorrectable : ℕ
 
+-- 1 if the word is corrected, else 0
 abbrev pub isCorrected : Class → ℕ
 isCorrected clean = 0
 isCorrected (flipped i) = 1
 isCorrected uncorrectable = 0
 
+-- 1 if the word is uncorrectable, else 0
 abbrev pub isUncorrectable : Class → ℕ
 isUncorrectable clean = 0
 isUncorrectable (flipped i) = 0
@@ -86,7 +88,7 @@ visitsOver len all (e ∷ es) = visitOf len all e ++ visitsOver len all es
 unfoldable pub visits : List ℕ → List Visit
 visits x = visitsOver (length x) (directory x) (directory x)
 
--- ---- the examined words, each by its number in the image and the place of its check byte
+-- ---- the codewords: each examined word by its number in the image, with the place of its check byte
 
 pub record Codeword : Type 0 where
   pub word : ℕ
@@ -109,7 +111,7 @@ codewordsIn (v ∷ vs) = wordsOf v ++ codewordsIn vs
 unfoldable pub codewords : List ℕ → List Codeword
 codewords x = codewordsIn (visits x)
 
--- (q, c) is one of them
+-- word q with check byte c is one of the codewords
 pub data Among (q c : ℕ) : List Codeword → Type 0 where
   here : {p : Codeword} {ps : List Codeword} → p .word ≡ q → p .check ≡ c → Among q c (p ∷ ps)
   later : {p : Codeword} {ps : List Codeword} → Among q c ps → Among q c (p ∷ ps)

@@ -1,4 +1,4 @@
--- Entries held as their first and their last word, in 32 bits each. (FORMAT 10)
+-- Steps of code, for private contracts; nothing that a reader must believe. Entries held as their first and their last word, in 32 bits each. (FORMAT 10)
 use mathlib.Core.Path.{_≡_}
 use mathlib.Core.Bool.{_&&_, cond}
 use mathlib.Core.List.{List}

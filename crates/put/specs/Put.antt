@@ -1,4 +1,4 @@
--- Steps of code, for private contracts; nothing that a reader must believe. Bytes put into a buffer, and the place right behind them.
+-- Steps of code, for the contracts of building blocks that other crates call; no statement of the demands speaks of them. Bytes put into a buffer, and the place right behind them.
 use mathlib.Core.Path.{_≡_}
 use mathlib.Core.List.{List}
 use Prim.Native.Nat.{ℕ, _+_}

@@ -74,7 +74,7 @@ fn settle_byte(bytes: &mut [u8], base: usize, k: usize, j: usize) -> usize
     first + second + third
 }
 
-// All of their bytes.
+// The same for all k bytes.
 fn settle_copies(bytes: &mut [u8], base: usize, k: usize) -> usize
     requires { ⌜ base + 3 * k ≤ length (now bytes) ⌝ }
     ensures leaves { λ r. ⌜ now (bytes .exit) ≡ copyVotes base k k 0 (now (bytes .entry)) ⌝ }

@@ -28,7 +28,7 @@ use Rattle.view.specs.declared.regions.RegionAt.{RegionAt}
 use Rattle.view.specs.declared.regions.RegionAt.the-variants as is
 use Rattle.view.proofs.AnswersLaw.{found-some, found-none}
 use Rattle.scan.specs.declared.runs.ProtectedRun.{ProtectedRun}
-use Rattle.scan.specs.Runs.{visitsAt, noRun, runOf, pairsOf, IsRun}
+use Rattle.scan.specs.Runs.{visitsAt, noRun, runOf, codewordsOf, IsRun}
 
 pub empty-run : (x : List ℕ) (vs : List Visit) (q : ProtectedRun) → q ≡ noRun → vs ≡ [] → IsRun x vs q
 unfolding codewordsFrom codewordsIn
@@ -146,6 +146,6 @@ unfolding codewordsFrom
 length-from zero q c = refl
 length-from (suc m) q c = ap suc (length-from m (suc q) (suc c))
 
-pub run-words : (x : List ℕ) (r : ProtectedRun) → report (classesAt x (pairsOf r)) .words ≡ r .words
+pub run-words : (x : List ℕ) (r : ProtectedRun) → report (classesAt x (codewordsOf r)) .words ≡ r .words
 unfolding report
-run-words x r = length-classes x (pairsOf r) ∙ length-from (r .words) (r .word) (r .check)
+run-words x r = length-classes x (codewordsOf r) ∙ length-from (r .words) (r .word) (r .check)

@@ -15,7 +15,7 @@ use Rattle.model.specs.Scrub.{visitAt}
 use Rattle.model.proofs.ScanLaw.{plus-none, none-plus, plus-assoc, report-append, report-none, anyOf, any-append, codewords-append, scan-given, visits-from}
 use Rattle.view.proofs.EntriesForLaw.{length-entriesFor}
 use Rattle.scan.specs.declared.runs.ProtectedRun.{ProtectedRun}
-use Rattle.scan.specs.Runs.{pairsOf, IsRun}
+use Rattle.scan.specs.Runs.{codewordsOf, IsRun}
 use Rattle.scan.specs.Tally.{Totals, noTotals, marked, withClasses, withVisits, reportedBy}
 
 -- ---- some visits more
@@ -33,7 +33,7 @@ more-append x vs ws t =
 
 -- a run is its visits
 pub run-more : (x : List ℕ) (vs : List Visit) (r : ProtectedRun) (t : Totals) → IsRun x vs r
-    → withClasses (marked t (r .visited)) (classesAt x (pairsOf r)) ≡ withVisits x vs t
+    → withClasses (marked t (r .visited)) (classesAt x (codewordsOf r)) ≡ withVisits x vs t
 unfolding withVisits
 run-more x vs r t k = ap₂ (λ (v : Bool) (ps : List Codeword). withClasses (marked t v) (classesAt x ps)) (k .visits) (k .codewords)
 

@@ -1,4 +1,4 @@
--- Steps of code, for private contracts; nothing that a reader must believe. The examined words of an entry, as one run. (FORMAT 7)
+-- Steps of code, for the contracts of building blocks that other crates call; no statement of the demands speaks of them. The examined words of an entry, as one run. (FORMAT 7)
 use mathlib.Core.Path.{_≡_}
 use mathlib.Core.Bool.{true, false}
 use mathlib.Core.List.{List, [], _∷_}
@@ -24,8 +24,8 @@ runOf (v ∷ vs) =
     record { visited = true; word = v .region .offset; check = 8 * v .plane .offset; words = min (v .region .words) (8 * v .plane .words) }
 
 -- its words, each with its check byte
-abbrev pub pairsOf : ProtectedRun → List Codeword
-pairsOf r = codewordsFrom (r .words) (r .word) (r .check)
+abbrev pub codewordsOf : ProtectedRun → List Codeword
+codewordsOf r = codewordsFrom (r .words) (r .word) (r .check)
 
 -- they lie in x
 pub record Fits (x : List ℕ) (r : ProtectedRun) : Type 0 where
@@ -35,7 +35,7 @@ pub record Fits (x : List ℕ) (r : ProtectedRun) : Type 0 where
 -- r is the run of the visits vs of x, which are one or none: so it has their words
 pub record IsRun (x : List ℕ) (vs : List Visit) (r : ProtectedRun) : Type 0 where
   pub is : r ≡ runOf vs
-  pub codewords : pairsOf r ≡ codewordsIn vs
+  pub codewords : codewordsOf r ≡ codewordsIn vs
   pub visits : r .visited ≡ anyOf vs
   pub fits : Fits x r
   pub few : r .words < 2 ^ 32

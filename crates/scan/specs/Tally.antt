@@ -1,4 +1,4 @@
--- Steps of code, for private contracts; nothing that a reader must believe. What a scan, scrub or mend has counted so far. (FORMAT 7, 8, 10)
+-- Steps of code, for the contracts of building blocks that other crates call; no statement of the demands speaks of them. What a scan, scrub or mend has counted so far. (FORMAT 7, 8, 10)
 use mathlib.Core.Bool.{Bool, false, _||_}
 use mathlib.Core.List.{List}
 use mathlib.Core.Option.{Option}

@@ -9,7 +9,7 @@ ghost use Rattle.ecc.specs.Answers.{asReport};
 ghost use Rattle.ecc.specs.CheckTable.{IsCheckTable};
 ghost use Rattle.layout.specs.Regions.{asEntry};
 ghost use Rattle.scan.specs.Answers.{asScan};
-ghost use Rattle.scan.specs.Runs.{pairsOf, Fits};
+ghost use Rattle.scan.specs.Runs.{codewordsOf, Fits};
 ghost use Rattle.scan.specs.Tally.{asTotals, marked, withClasses, Room};
 use ecc::CheckTable;
 use ecc::EMPTY_TABLE;
@@ -36,7 +36,7 @@ pub enum ScanResult {
 
 fn scan_run(table: &CheckTable, bytes: &[u8], run: ProtectedRun) -> EccReport
     requires { ⌜ Fits (now bytes) run × IsCheckTable (now table) ⌝ }
-    ensures { λ r. ⌜ asReport r ≡ report (classesAt (now (bytes .entry)) (pairsOf run)) ⌝ }
+    ensures { λ r. ⌜ asReport r ≡ report (classesAt (now (bytes .entry)) (codewordsOf run)) ⌝ }
 {
     let from = 8 * run.word;
     let to = from + 8 * run.words;
@@ -48,7 +48,7 @@ fn scan_run(table: &CheckTable, bytes: &[u8], run: ProtectedRun) -> EccReport
 // The words of a run more.
 fn add_run(table: &CheckTable, bytes: &[u8], run: ProtectedRun, tally: Tally) -> Tally
     requires { ⌜ Fits (now bytes) run × IsCheckTable (now table) × Room (run .words) (asTotals tally .report) ⌝ }
-    ensures is { λ r. ⌜ asTotals r ≡ withClasses (marked (asTotals tally) (run .visited)) (classesAt (now (bytes .entry)) (pairsOf run)) ⌝ }
+    ensures is { λ r. ⌜ asTotals r ≡ withClasses (marked (asTotals tally) (run .visited)) (classesAt (now (bytes .entry)) (codewordsOf run)) ⌝ }
     ensures grows { λ r. ⌜ (r .report .words ≡ tally .report .words + run .words) × Room 0 (asTotals r .report) ⌝ }
 {
     let report = scan_run(table, bytes, run);

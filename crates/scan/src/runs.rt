@@ -15,7 +15,7 @@ use view::RegionAt;
 use view::ecc_for;
 use view::region_at;
 
-// As many words from word on, with check bytes from check on. A region with a plane is visited, even without words.
+// `words` words from word `word` on, with check bytes from byte `check` on. A region with a plane is visited, even without words.
 pub struct ProtectedRun {
     pub visited: bool,
     pub word: usize,
@@ -40,7 +40,7 @@ fn min(a: usize, b: usize) -> usize
     if a < b { a } else { b }
 }
 
-// Of a region, whatever its flags.
+// The run of a region, whatever its flags.
 pub(crate) fn run_with_plane(bytes: &[u8], header: Header, region: Region) -> ProtectedRun
     ensures { λ r. ⌜ IsRun (now (bytes .entry)) (visitWith (asEntry region) (planeOf (length (now (bytes .entry))) (entriesFor (header .«region_count») (now (bytes .entry))) (asEntry region))) r ⌝ }
 {
@@ -61,7 +61,7 @@ pub(crate) fn run_with_plane(bytes: &[u8], header: Header, region: Region) -> Pr
     }
 }
 
-// Of entry i, if there is one and it is protected.
+// The run of entry i, if there is one and it is protected; else none.
 pub fn protected_run_at(bytes: &[u8], header: Header, i: u16) -> ProtectedRun
     ensures { λ r. ⌜ IsRun (now (bytes .entry)) (visitsAt (header .«region_count») (now (bytes .entry)) i) r ⌝ }
 {

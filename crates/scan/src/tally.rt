@@ -49,7 +49,7 @@ fn sum(a: EccReport, b: EccReport) -> EccReport
     }
 }
 
-// The words of a report more.
+// Adds the words of a report to the tally.
 pub(crate) fn add_report(tally: Tally, report: EccReport) -> Tally
     requires { ⌜ Room (report .words) (asReport (tally .report)) × Bounded (asReport report) ⌝ }
     ensures { λ r. ⌜ asTotals r ≡ withReport (asTotals tally) (asReport report) ⌝ }
@@ -83,7 +83,7 @@ fn report_on(status: WordStatus) -> EccReport
     }
 }
 
-// One word more.
+// Adds one word to the tally.
 pub fn add_word(tally: Tally, status: WordStatus) -> Tally
     requires { ⌜ Room 1 (asReport (tally .report)) ⌝ }
     ensures { λ r. ⌜ asTotals r ≡ counted (asTotals tally) (asOutcome status) ⌝ }

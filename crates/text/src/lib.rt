@@ -48,7 +48,7 @@ pub struct Printed {
     pub line: usize,
 }
 
-// An image mended in place, all of it to be written, or refused and none of it; and from the start of out on the line that says so.
+// Mends an image in place, all of which is then to be written, or refuses it and none is; the line that says so goes to the start of out.
 pub fn scrub(image: &mut [u8], out: &mut [u8; 128]) -> Printed
     ensures is { λ r. ⌜ r .line ≡ length (scrubText (now (image .entry))) ⌝ }
     ensures says { λ _. ⌜ now (out .exit) ≡ sets (now (out .entry)) 0 (scrubText (now (image .entry))) ⌝ }

@@ -1,4 +1,4 @@
--- What damage leaves: the vote is right, and a protected word is repaired or told to be beyond repair. Assumes nothing.
+-- What damage leaves: the vote is right, and a protected word is repaired or found uncorrectable. Assumes nothing.
 use mathlib.Core.Path.{_≡_, refl, sym, ap, _∙_, subst}
 use mathlib.Core.List.{List}
 use mathlib.Core.Logic.{_⊎_, inl, inr}
@@ -47,7 +47,7 @@ voted-damaged w d base k v bv bd e c o =
 
 -- ---- one word, of whose 72 bits some are flipped
 
--- it is repaired, and not told to be lost
+-- it is repaired, and not found uncorrectable
 pub Right : ℕ → ℕ → ℕ → ℕ → Type 0
 Right w c w′ c′ = (w ≡ fixedWord w′ c′) × (c ≡ fixedCheck w′ c′) × (isUncorrectable (decode w′ c′) ≡ 0)
 
@@ -77,7 +77,7 @@ module _ (most : ℕ) (w d : List ℕ) (g : InOrder w) (a : Damaged most w d) wh
   pub damaged-codewords : codewords d ≡ codewords w
   damaged-codewords = same-codewords d w (a .size) damaged-header
 
-  -- with at most two bits off, a protected word is repaired, or told to be beyond repair
+  -- with at most two bits off, a protected word is repaired, or found uncorrectable
   pub each : (q c : ℕ) → Protected w q c → most ≤ 2
       → Right (wordAt w q) (at w c) (wordAt d q) (at d c) ⊎ ((2 ≤ most) × (Uncorrectable d q c))
   unfolding Right
@@ -102,7 +102,7 @@ module _ (most : ℕ) (w d : List ℕ) (g : InOrder w) (a : Damaged most w d) wh
       go l (inr r) = inr (let z = r .0 in omega arith, r .1)
 
   module _ (y : List ℕ) (r : MendRule d y) (h : most ≤ 2) where
-    -- mended, every byte outside the words that are beyond repair and their check bytes is w's
+    -- mended, every byte outside the uncorrectable words and their check bytes is w's
     pub outside : (p : ℕ)
         → ((q c : ℕ) → Protected w q c → 2 ≤ most → Uncorrectable d q c → (q ≡ p / 8 → ⊥) × (c ≡ p → ⊥)) → at y p ≡ at w p
     unfolding Right
@@ -135,13 +135,13 @@ module _ (most : ℕ) (w d : List ℕ) (g : InOrder w) (a : Damaged most w d) wh
             ∙ ap (λ (x : List ℕ). at x p) (same-header d w damaged-header) ∙ sym (g .copies p l)
         go (no n) = rest (omega arith) (classify (codewords w) p)
 
-    -- so where none is beyond repair, it is w
+    -- so where none is uncorrectable, it is w
     pub wholly : ((q c : ℕ) → Protected w q c → 2 ≤ most → Uncorrectable d q c → ⊥) → y ≡ w
     wholly f =
         ext-getD 0 y w (r .size ∙ a .size)
         (λ p l. outside p (λ q c m i e. ((λ u. f q c m i e), (λ u. f q c m i e))))
 
--- demand 3's damage: no word is told to be lost
+-- demand 3's damage: no word is uncorrectable
 pub none-uncorrectable : (w d : List ℕ) (g : InOrder w) (a : Damaged 1 w d) (q c : ℕ) → Protected w q c → isUncorrectable (decode (wordAt d q) (at d c)) ≡ 0
 unfolding Right
 none-uncorrectable w d g a q c m = go (each 1 w d g a q c m (omega arith))

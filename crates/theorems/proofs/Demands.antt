@@ -1,5 +1,5 @@
 -- Every demand as a statement: the user's sentence, what it says of the definitions or of a run of a function (specs/Runs.antt), and the work that proves it. Assumes nothing.
--- The theorems about definitions stand again, of the functions' own answers and bytes, in Functions.antt.
+-- Those about write, mend, scrub and the command stand again, of the functions' own answers and bytes, in Functions.antt (of `mend-refuses-exactly` the part about 12).
 --
 --   1. Every input gets an answer. Bad images, plans and sizes are refused by number, and every byte of a lent buffer after a refusal is prescribed.
 --      Only the Rust's own scrub may refuse after writing, and then exactly as the Rust does.
@@ -11,24 +11,24 @@
 -- The rule behind them: repair only what two header copies outvote or the parity says is one flipped bit, touch nothing else, and check the image afresh before it is loaded.
 use mathlib.Core.Path.{_≡_, ap₂}
 use mathlib.Core.Bool.{Bool, true, false}
-use mathlib.Core.List.{List, [], _∷_}
+use mathlib.Core.List.{List, [], _∷_, _++_}
 use mathlib.Core.Logic.{_⊎_}
 use mathlib.Core.Option.{Option, none}
 use Prim.Native.Nat.{ℕ, _+_, _*_, _/_, _^_, _≤_, _<_}
 use lib.Bits.{bitXor}
 use lib.Dec.{ltb}
-use lib.ListN.{length, getD}
+use lib.ListN.{length, getD, drop}
 use Rattle.bits.specs.Bit.{bit}
 use Rattle.bits.specs.Vote.{wrong, Majority}
 use Rattle.model.specs.Bytes.{at, wordAt, Bytes}
-use Rattle.model.specs.Refusals.{refuse, overlappingRegions}
+use Rattle.model.specs.Refusals.{fine, refuse, overlappingRegions}
 use Rattle.model.specs.Layout.{maj3, voted, count, headerLength, header, directory, scrubWanted}
 use Rattle.model.specs.Crc.{Crc32, crc32}
 use Rattle.model.specs.Parse.{parse, headerOf, accepted, refused}
 use Rattle.model.specs.Parity.{hsiao, columns, isOdd, checkOf, flipped, uncorrectable, flipWord, flipCheck, decode}
 use Rattle.model.specs.Scan.{Report, scan}
 use Rattle.model.specs.Scrub.{scrub}
-use Rattle.model.specs.Writer.{planes, image, write}
+use Rattle.model.specs.Writer.{planes, planImage, imageLength, planVerdict, image, write}
 use Rattle.model.specs.Writer as plan
 use Rattle.model.specs.Mend.{LaidApart, FirstMisplaced, MendRule, mendBytes, changed, whole, mended, refusedMend, mendVerdict, mend, placement, placementVerdict}
 use Rattle.model.specs.Placement.{TrueOf}
@@ -46,6 +46,8 @@ use Rattle.error.proofs.OneAnswer.{one-refusal}
 use Rattle.scan.specs.declared.ScanResult.{ScanResult}
 use Rattle.scan.specs.declared.ScanResult.the-variants as scan-says
 use Rattle.writer.specs.declared.plan.Row.{Row}
+use Rattle.writer.specs.Answers.{asPlan}
+use Rattle.writer.specs.declared.sizes.WriteResult.{WriteResult}
 use Rattle.writer.specs.declared.sizes.WriteResult.the-variants as write-says
 use Rattle.repair.specs.declared.mending.MendResult.the-variants as mend-says
 use Rattle.theorems.specs.Damage.{Protected, bitsOff, Damaged, Touched, Uncorrectable, uncorrected, ReadsBack}
@@ -64,7 +66,8 @@ use Rattle.theorems.proofs.ReadsBack.{read-back}
 use Rattle.theorems.proofs.Sample.{sampleRows, samplePayload, sample, sample-written, everyHit, hit-allowed, hit-header, hit-words, twoBits, two-bits-excluded, twoCopies, two-copies-excluded}
 
 -- ==== Demand 1. "Every input gets an answer."
--- There is nothing to state: every function ends, for every input and with no `requires` on a public one, or it is not built. What each answers is its contract (docs/PROMISES.md).
+-- There is nothing to state: a function that does not end, or that some input can stop, is not built. No public function has a `requires` but six building blocks
+-- (of `put`, and `add_word` of `scan`), whose callers are proved to meet it. What each answers is its contract (docs/PROMISES.md).
 
 -- "Refused by number": number and detail name the refusal.
 pub refused-by-number : (a b : Refusal) → numberOf a ≡ numberOf b → detailOf a ≡ detailOf b → a ≡ b
@@ -150,8 +153,19 @@ mend-refuses-exactly x = (as-parse x, only-overlap x, overlap-always x, else-men
 pub placement-named : (x : List ℕ) → (placementVerdict (placement x) ≡ mendVerdict x) × TrueOf x (placement x)
 placement-named x = (placed.placement-verdict x, placed.placement-named x)
 
--- "Writer equals the format's rules": its definition is the image as the rules lay it out, and what it makes reads back. It parses; each row's region
--- hands back its payload; the scan is clean.
+-- "Writer equals the format's rules." A plan that meets no refusal's condition is written: the image at the front of `out`, every byte behind it as it was.
+pub writes-exactly : (rows : List Row) (payload out : List ℕ) (r : WriteResult) (after : List ℕ) → Writes rows payload out r after
+    → planVerdict (asPlan rows) payload (length out) ≡ fine
+    → (r ≡ write-says.Written (imageLength (asPlan rows))) × (after ≡ planImage (asPlan rows) payload ++ drop (imageLength (asPlan rows)) out)
+writes-exactly = run.plan-written
+
+-- Any other is refused with the number and the detail of the first condition that it meets, and every byte of `out` is as it was.
+pub refuses-plan-exactly : (rows : List Row) (payload out : List ℕ) (r : WriteResult) (after : List ℕ) → Writes rows payload out r after
+    → (n d : ℕ) → planVerdict (asPlan rows) payload (length out) ≡ refuse n d
+    → ((s : Refusal) × (r ≡ write-says.Refused s) × (numberOf s ≡ n) × (detailOf s ≡ d)) × (after ≡ out)
+refuses-plan-exactly = run.plan-refuses
+
+-- What it makes reads back: it parses, each row's region hands back its payload, and the scan is clean.
 pub written-reads-back : (rs : List plan.Row) (payload : List ℕ) (room : ℕ) (w : List ℕ)
     → write rs payload room ≡ image w → Bytes payload → ReadsBack rs payload w
 written-reads-back = read-back
@@ -170,7 +184,7 @@ pub restores : (rs : List plan.Row) (payload : List ℕ) (room : ℕ) (w d : Lis
     → mend d ≡ mended w (scan d) (changed d w) (ltb 0 (planes rs))
 restores rs payload room w d written bytes damage = restored rs payload room w written bytes d damage
 
--- The same of the command: an image of at most 65,536 bytes, so damaged, comes out of scrub as the writer's exact bytes, with the number of bytes that differed.
+-- The same of the command: an image of at most 65,536 bytes, so damaged, is written by scrub as the writer's exact bytes (`scrubImage`), with the number of bytes that differed.
 pub command-restores : (rs : List plan.Row) (payload : List ℕ) (room : ℕ) (w d : List ℕ)
     → write rs payload room ≡ image w → Bytes payload → Damaged 1 w d → length w ≤ 65536
     → (scrubImage d ≡ w) × (scrubText d ≡ lines (storedLine (changed d w) ∷ []))
@@ -190,7 +204,7 @@ pub one-origin : (rs rs′ : List plan.Row) (payload payload′ : List ℕ) (roo
 one-origin = one-source
 
 -- The damage that is allowed is neither nothing nor everything. On an image of one row of two protected words (proofs/Sample.antt) it allows
--- one bit off in each of the 144 header bytes and in each protected word.
+-- damage in each of the 144 header bytes at once, and one bit off among each protected word and its check byte.
 pub damage-allowed : (write sampleRows samplePayload 168 ≡ image sample)
     × Damaged 1 sample everyHit
     × ((p : ℕ) → p < 144 → at everyHit p ≡ at sample p → ⊥)
@@ -205,11 +219,13 @@ damage-excluded = (two-bits-excluded, two-copies-excluded)
 
 -- "Repair only what two header copies outvote or the parity says is one flipped bit, touch nothing else." A byte that mend changes is a header copy's byte
 -- that the other two outvote, or the byte of the wrong bit in a word with its check byte whose syndrome is exactly one column; every other byte stays, and the length.
+-- Which bits of it change is `mend-is-the-rule`.
 pub touches-nothing-else : (x y : List ℕ) (r : Option Report) (k : ℕ) (t : Bool) → Bytes x → mend x ≡ mended y r k t
     → (length y ≡ length x) × ((p : ℕ) → (at y p ≡ at x p → ⊥) → Touched x p)
 touches-nothing-else x y r k t b h = let m = mends x y r k t b h in (m .rule .size, only-touched x y b (m .rule))
 
 -- "Check the image afresh before it is loaded." What mend leaves parses to the same header and directory with no scrub wanted, is laid apart, and its scan has no corrected word.
+-- So the check that a loader has to make passes; that it makes one is the caller's (include/kw.h).
 pub fresh-check : (x y : List ℕ) (r : Option Report) (k : ℕ) (t : Bool) → Bytes x → mend x ≡ mended y r k t
     → (parse y ≡ accepted (record { regions = count x; prologueDisagreed = false; directoryDisagreed = false }))
     × (scrubWanted y ≡ false)

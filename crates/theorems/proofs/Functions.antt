@@ -1,4 +1,4 @@
--- The demands of the functions themselves: `writer::write`, `repair::mend` and `text::scrub`, through their promises (specs/Runs.antt). Assumes nothing.
+-- The demands of the functions themselves: `writer::write`, `repair::mend`, `repair::scrub` and `text::scrub`, through their promises (specs/Runs.antt). `Bytes` is true of every lent slice of u8, by its type. Assumes nothing.
 use mathlib.Core.Path.{_≡_, sym, ap, _∙_}
 use mathlib.Core.Bool.{true, false}
 use mathlib.Core.List.{List, [], _∷_}
@@ -59,7 +59,7 @@ module _ (rows : List Row) (payload out : List ℕ) (n : ℕ) (after : List ℕ)
       (run.written rows payload out n after wrote) bytes (run.written rows′ payload′ out′ n′ after′ wrote′) bytes′ damage damage′ in
       (run.same-rows rows rows′ (o .0), o .1)
 
-  -- With up to two bits wrong in each word: whole means the writer's bytes, and a word that is lost is as given.
+  -- With up to two bits wrong in each word: whole means the writer's bytes, and an uncorrectable word is as given.
   pub whole-means-whole : (d : List ℕ) → Damaged 2 (take n after) d → (r : MendResult) (y : List ℕ) → MendsTo d r y
       → (asMended r y ≡ mended y (scan d) (changed d y) (whole d))
       × (whole d ≡ true → y ≡ take n after)

@@ -1,27 +1,31 @@
 -- What a run says of the definitions. Assumes nothing.
 use mathlib.Core.Path.{_≡_, refl, sym, ap, ap₂, _∙_, subst}
-use mathlib.Core.List.{List, [], _∷_}
+use mathlib.Core.List.{List, [], _∷_, _++_}
 use mathlib.Core.Logic.{_⊎_}
 use Prim.Native.Nat.{ℕ}
 use native.Mathlib.Omega.{arith}
 use denote.Ref.{now}
 use contract.Lifetimes.{Lfts}
-use Rattle.writer.proofs.OneAnswer.{write-reads}
+use Rattle.writer.proofs.OneAnswer.{write-reads, one-written}
 use lib.ListN.{length, take, drop}
 use lib.Seq.{take-append-seam}
+use Rattle.model.specs.Refusals.{Verdict, fine, refuse}
 use Rattle.model.specs.Parse.{parse, refused}
 use Rattle.model.specs.Scrub as scrubs
 use Rattle.model.specs.Mend as model
 use Rattle.model.specs.Writer as plan
+use Rattle.lemmas.proofs.PlanLaw.{plan-ok}
+use Rattle.lemmas.proofs.ImageLaw.{written-length}
 use Rattle.error.specs.Refused.{numberOf, detailOf}
 use Rattle.error.specs.declared.Refusal.{Refusal}
 use Rattle.scan.specs.Answers.{asScan}
 use Rattle.scan.specs.declared.ScanResult.{ScanResult}
 use Rattle.scan.specs.declared.ScanResult.the-variants as scan-says
 use Rattle.scan.proofs.OneAnswer.{one-scan}
-use Rattle.writer.specs.Answers.{asRow, asPlan, answerOf, bytesAfter, wrote}
+use Rattle.writer.specs.Answers.{asRow, asPlan, asWritten, answerOf, bytesAfter, wrote}
 use Rattle.writer.specs.Answers as plan-answer
 use Rattle.writer.specs.declared.plan.Row.{Row}
+use Rattle.writer.specs.declared.sizes.WriteResult.{WriteResult}
 use Rattle.writer.specs.declared.sizes.WriteResult.the-variants.{Written}
 use Rattle.writer.specs.declared.sizes.WriteResult.the-variants as write
 use Rattle.repair.proofs.mend.Reads as mend
@@ -95,6 +99,33 @@ plan-as (plan.image x) k d out e = let f : _≡_ {A = ℕ} 0 1 = cc in absurd (o
 
 pub plan-refused : (rows : List Row) (payload out : List ℕ) (r : Refusal) (after : List ℕ) → Writes rows payload out (write.Refused r) after → after ≡ out
 plan-refused rows payload out r after u = u .leaves ∙ plan-as (plan.write (asPlan rows) payload (length out)) (numberOf r) (detailOf r) out (u .answer)
+
+-- ---- what is written, and what is refused
+
+pub plan-written : (rows : List Row) (payload out : List ℕ) (r : WriteResult) (after : List ℕ) → Writes rows payload out r after
+    → plan.planVerdict (asPlan rows) payload (length out) ≡ fine
+    → (r ≡ write.Written (plan.imageLength (asPlan rows))) × (after ≡ plan.planImage (asPlan rows) payload ++ drop (plan.imageLength (asPlan rows)) out)
+unfolding plan.write
+plan-written rows payload out r after u v =
+    let rs = asPlan rows in
+    let e : length (plan.planImage rs payload) ≡ plan.imageLength rs = written-length rs payload (plan-ok rs payload (length out) v) in
+    let w : plan.writeAs (plan.planVerdict rs payload (length out)) (plan.planImage rs payload) ≡ plan.image (plan.planImage rs payload) = ap (λ (z : Verdict). plan.writeAs z (plan.planImage rs payload)) v in (
+      one-written r (write.Written (plan.imageLength rs)) (u .answer ∙ ap answerOf w ∙ ap wrote e),
+      u .leaves ∙ ap (λ (z : plan.Written). bytesAfter z out) w ∙ ap (λ (n : ℕ). plan.planImage rs payload ++ drop n out) e,
+    )
+
+refusal-of : (r : WriteResult) (n d : ℕ) → asWritten r ≡ plan-answer.refused n d → (s : Refusal) × (r ≡ write.Refused s) × (numberOf s ≡ n) × (detailOf s ≡ d)
+refusal-of (write.Written m) n d e = let f : _≡_ {A = ℕ} 0 1 = cc in absurd (omega arith)
+refusal-of (write.Refused s) n d e = let a : numberOf s ≡ n = cc in let b : detailOf s ≡ d = cc in (s, refl, a, b)
+
+pub plan-refuses : (rows : List Row) (payload out : List ℕ) (r : WriteResult) (after : List ℕ) → Writes rows payload out r after
+    → (n d : ℕ) → plan.planVerdict (asPlan rows) payload (length out) ≡ refuse n d
+    → ((s : Refusal) × (r ≡ write.Refused s) × (numberOf s ≡ n) × (detailOf s ≡ d)) × (after ≡ out)
+unfolding plan.write
+plan-refuses rows payload out r after u n d v =
+    let rs = asPlan rows in
+    let w : plan.writeAs (plan.planVerdict rs payload (length out)) (plan.planImage rs payload) ≡ plan.refusedPlan n d = ap (λ (z : Verdict). plan.writeAs z (plan.planImage rs payload)) v in
+    (refusal-of r n d (u .answer ∙ ap answerOf w), u .leaves ∙ ap (λ (z : plan.Written). bytesAfter z out) w)
 
 -- ---- scrub says nothing
 

@@ -48,7 +48,7 @@ pub record Damaged (most : ℕ) (w d : List ℕ) : Type 0 where
   -- at each header bit, of prologue and directory, at most one of the three copies differs
   pub prologue : OneCopyOff w d 0 16
   pub directory : OneCopyOff w d 48 (16 * count w)
-  -- among each protected word and its check byte at most so many of the 72 bits differ
+  -- among each protected word and its check byte at most `most` of the 72 bits differ
   pub words : (q c : ℕ) → Protected w q c → bitsOff w d q c ≤ most
   -- no other byte differs
   pub others : (p : ℕ) → Elsewhere w p → at d p ≡ at w p
@@ -78,18 +78,18 @@ pub data Touched (x : List ℕ) : ℕ → Type 0 where
   -- a check bit's column: the check byte
   isCheck : (q c i : ℕ) → OneColumn x q c i → 64 ≤ i → i < 72 → Touched x c
 
--- the word is beyond repair: it could not be corrected
+-- word q with check byte c is uncorrectable in d
 abbrev pub Uncorrectable : List ℕ → ℕ → ℕ → Type 0
 Uncorrectable d q c = decode (wordAt d q) (at d c) ≡ uncorrectable
 
 -- ---- reports, and the writer's image read back
 
--- the report with nothing to correct
+-- the report with 0 corrected words
 abbrev pub uncorrected : Option Report → Option Report
 uncorrected none = none
 uncorrected (some r) = some (record { words = r .words; corrected = 0; uncorrectable = r .uncorrectable })
 
--- the entry of row r behind the rows before
+-- the entry of row r, which stands behind the rows `before`
 abbrev pub entryOfRow : List Row → List Row → Row → Entry
 entryOfRow rs before r = rowEntry (firstWord rs + rowWords before) r
 

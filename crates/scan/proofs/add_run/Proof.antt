@@ -5,7 +5,7 @@ use borrow.Author.Needs.{needs}
 use denote.Ref.{now}
 use Rattle.model.specs.Scan.{Report, classesAt}
 use Rattle.ecc.specs.Answers.{asReport}
-use Rattle.scan.specs.Runs.{pairsOf}
+use Rattle.scan.specs.Runs.{codewordsOf}
 use Rattle.scan.specs.Tally.{Totals, asTotals, marked, withReport, Bounded, Room}
 use Rattle.scan.proofs.TallyLaw.{bounded-report, room-report}
 use Rattle.scan.proofs.RunLaw.{run-words}
@@ -21,7 +21,7 @@ add-report-requires c κs =
     let v = ap (λ (t : Totals). t .report) (c .visit .ensures) in (
       subst (Room (c .before .scan-run .result .words)) (sym v)
           (record { words = omega (arith, s .pre .2 .words, ap (λ (q : Report). q .words) e, run-words x r); counts = s .pre .2 .counts }),
-      subst Bounded (sym e) (bounded-report (classesAt x (pairsOf r))),
+      subst Bounded (sym e) (bounded-report (classesAt x (codewordsOf r))),
     )
 
 returns : tie.Need-returns
@@ -34,7 +34,7 @@ returns c =
       is,
       (
         ap (λ (t : Totals). t .report .words) is ∙ omega (arith, run-words x r),
-        subst (λ (t : Totals). Room 0 (t .report)) (sym is) (room-report (asTotals (s .args .tally) .report) (classesAt x (pairsOf r)) (record { words = omega (arith, s .pre .2 .words, run-words x r); counts = s .pre .2 .counts })),
+        subst (λ (t : Totals). Room 0 (t .report)) (sym is) (room-report (asTotals (s .args .tally) .report) (classesAt x (codewordsOf r)) (record { words = omega (arith, s .pre .2 .words, run-words x r); counts = s .pre .2 .counts })),
       ),
     )
 

@@ -7,7 +7,7 @@ use lib.ListN.{length}
 use Rattle.model.specs.Views.{entriesFor}
 use Rattle.model.specs.Scan.{classesAt, planeOf, visitWith, scanRegion}
 use Rattle.layout.specs.Regions.{asEntry}
-use Rattle.scan.specs.Runs.{pairsOf}
+use Rattle.scan.specs.Runs.{codewordsOf}
 use Rattle.scan.specs.Tally.{Totals, asTotals, noTotals, marked, withClasses, Room}
 use Rattle.scan.proofs.TallyLaw.{room-start}
 use Rattle.scan.proofs.VisitLaw.{run-more, all-said}
@@ -32,7 +32,7 @@ returns c =
     let vs = visitWith (asEntry (g .region)) (planeOf (length x) (entriesFor (g .header .«region_count») x) (asEntry (g .region))) in
     c .scan-result .ensures
     ∙ all-said x vs (asTotals (a .result))
-    (a .ensures .0 ∙ ap (λ (t : Totals). withClasses (marked t (r .result .visited)) (classesAt x (pairsOf (r .result)))) (c .before .before .empty-tally .ensures)
+    (a .ensures .0 ∙ ap (λ (t : Totals). withClasses (marked t (r .result .visited)) (classesAt x (codewordsOf (r .result)))) (c .before .before .empty-tally .ensures)
     ∙ run-more x vs (r .result) noTotals (r .ensures))
 
 pub verify-region-spec : {M : Type 1} → statement M
