@@ -30,6 +30,18 @@ unfolding report
 report-both ks js =
     same-report (sym (length-append ks js)) (sym (total-append isCorrected ks js)) (sym (total-append isUncorrectable ks js))
 
+-- one word more, by what became of it
+
+module _ (r : Report) where
+  pub on-clean : (w : ℕ) → _≡_ {A = Report} (record { words = r .words + 1; corrected = r .corrected; uncorrectable = r .uncorrectable }) (plus r (reportOn (cleanWord w)))
+  on-clean w = same-report refl (omega arith) (omega arith)
+
+  pub on-corrected : (w : ℕ) → _≡_ {A = Report} (record { words = r .words + 1; corrected = r .corrected + 1; uncorrectable = r .uncorrectable }) (plus r (reportOn (correctedWord w)))
+  on-corrected w = same-report refl refl (omega arith)
+
+  pub on-uncorrectable : _≡_ {A = Report} (record { words = r .words + 1; corrected = r .corrected; uncorrectable = r .uncorrectable + 1 }) (plus r (reportOn uncorrectableWord))
+  on-uncorrectable = same-report refl (omega arith) refl
+
 pub words-on : (o : Outcome) → reportOn o .words ≡ 1
 words-on (cleanWord w) = refl
 words-on (correctedWord w) = refl

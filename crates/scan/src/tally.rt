@@ -61,24 +61,26 @@ pub(crate) fn add_report(tally: Tally, report: EccReport) -> Tally
     }
 }
 
-fn report_on(status: WordStatus) -> EccReport
-    ensures { λ r. ⌜ asReport r ≡ reportOn (asOutcome status) ⌝ }
+// Each case has sums of its own: to add a count of 0 or 1 to each would take longer than to decode the word.
+fn count_word(report: EccReport, status: WordStatus) -> EccReport
+    requires { ⌜ Room 1 (asReport report) ⌝ }
+    ensures { λ r. ⌜ asReport r ≡ plus (asReport report) (reportOn (asOutcome status)) ⌝ }
 {
     match status {
         WordStatus::Clean(_) => EccReport {
-            words: 1,
-            corrected: 0,
-            uncorrectable: 0,
+            words: report.words + 1,
+            corrected: report.corrected,
+            uncorrectable: report.uncorrectable,
         },
         WordStatus::Corrected(_) => EccReport {
-            words: 1,
-            corrected: 1,
-            uncorrectable: 0,
+            words: report.words + 1,
+            corrected: report.corrected + 1,
+            uncorrectable: report.uncorrectable,
         },
         WordStatus::Uncorrectable => EccReport {
-            words: 1,
-            corrected: 0,
-            uncorrectable: 1,
+            words: report.words + 1,
+            corrected: report.corrected,
+            uncorrectable: report.uncorrectable + 1,
         },
     }
 }
@@ -88,7 +90,11 @@ pub fn add_word(tally: Tally, status: WordStatus) -> Tally
     requires { ⌜ Room 1 (asReport (tally .report)) ⌝ }
     ensures { λ r. ⌜ asTotals r ≡ counted (asTotals tally) (asOutcome status) ⌝ }
 {
-    add_report(tally, report_on(status))
+    let before = tally.report;
+    Tally {
+        any: tally.any,
+        report: count_word(before, status),
+    }
 }
 
 pub fn scan_result(tally: Tally) -> ScanResult
