@@ -9,7 +9,7 @@ use lib.Seq.{sets}
 use Rattle.model.specs.Mend.{mend}
 use Rattle.model.specs.Programs.{text, lineFeed, lines}
 use Rattle.model.proofs.ProgramsLaw.{too-long, looked-at}
-use Rattle.repair.specs.Answers.{leftBy}
+use Rattle.mending.specs.Answers.{leftBy}
 use Rattle.put.specs.Put.{Put}
 use Rattle.put.proofs.PutLaw.{put-two}
 use Rattle.text.specs.Left.{leftIn}

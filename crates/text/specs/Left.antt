@@ -4,7 +4,7 @@ use mathlib.Core.List.{List}
 use Prim.Native.Nat.{ℕ}
 use Rattle.model.specs.Mend.{mend}
 use Rattle.model.specs.Programs.{tooLong}
-use Rattle.repair.specs.Answers.{leftBy}
+use Rattle.mending.specs.Answers.{leftBy}
 
 unfoldable pub leftIn : List ℕ → List ℕ
 leftIn x = cond (tooLong x) x (leftBy (mend x) x)

@@ -14,7 +14,7 @@ use line::put_refused;
 use line::put_regions;
 use line::put_stored;
 use line::put_too_long;
-use repair::MendResult;
+use mending::MendResult;
 use view::ParseResult;
 
 // The report on an image, from the start of out on; the number of its bytes.
@@ -63,7 +63,7 @@ pub fn scrub(image: &mut [u8], out: &mut [u8; 128]) -> Printed
             line: put_line_feed(out, end),
         };
     }
-    match repair::mend(image) {
+    match mending::mend(image) {
         MendResult::Refused(refusal) => {
             let end = put_refused(out, 0, refusal);
             Printed {

@@ -13,7 +13,7 @@ use Rattle.model.specs.Scan.{Report, scanIn, scan}
 use Rattle.model.specs.Programs.{regionsLine, eccLine, lines, linesOf}
 use Rattle.view.specs.Answers.{asParsed}
 use Rattle.view.proofs.AnswersLaw.{parsed-fine, parsed-count}
-use Rattle.repair.proofs.MendingLaw.{scan-is}
+use Rattle.scan.proofs.VisitLaw.{scan-is}
 use Rattle.io.proofs.Counting.{counts}
 use Rattle.model.proofs.ProgramsLaw.{report-long, report-short}
 use Rattle.text.proofs.TextLaw.{put-line, put-last-line, text-put}

@@ -7,8 +7,8 @@ use lib.ListN.{length}
 use lib.Seq.{take-all}
 use Rattle.model.specs.Mend.{mend}
 use Rattle.model.specs.Programs.{imageOut, lineOf}
-use Rattle.repair.specs.Answers.{asMended}
-use Rattle.repair.specs.declared.mending.MendResult.{MendResult}
+use Rattle.mending.specs.Answers.{asMended}
+use Rattle.mending.specs.declared.MendResult.{MendResult}
 use Rattle.io.proofs.Counting.{counts}
 use Rattle.model.proofs.ProgramsLaw.{line-long, image-long, line-short, image-short, scrub-text}
 use Rattle.text.proofs.TextLaw.{put-last-line, text-put, left-long, left-short}
