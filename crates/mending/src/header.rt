@@ -8,8 +8,8 @@ ghost use Rattle.model.specs.Bytes.{at};
 ghost use Rattle.model.specs.Mend.{changed};
 ghost use Rattle.lemmas.specs.Steps.{copyVote, copyVotes, mendHeader};
 ghost use Rattle.mending.specs.Mendable.{Mendable, Tells};
-use layout::DIRECTORY_OFFSET;
 use layout::DIR_ENTRY_BYTES;
+use layout::DIRECTORY_OFFSET;
 use layout::PROLOGUE_BYTES;
 use scalar::maj3;
 use view::Header;
@@ -64,7 +64,11 @@ fn vote_header(bytes: &mut [u8], header: Header) -> usize
     ensures counts { λ r. ⌜ r ≡ changed (now (bytes .entry)) (now (bytes .exit)) ⌝ }
 {
     let prologue = vote_copies(bytes, 0, PROLOGUE_BYTES);
-    let directory = vote_copies(bytes, DIRECTORY_OFFSET, DIR_ENTRY_BYTES * (header.region_count as usize));
+    let directory = vote_copies(
+        bytes,
+        DIRECTORY_OFFSET,
+        DIR_ENTRY_BYTES * (header.region_count as usize),
+    );
     prologue + directory
 }
 

@@ -38,8 +38,9 @@ fn mend_word(table: &CheckTable, bytes: &mut [u8], word: usize, check: usize) ->
     let start = 8 * word;
     let data = u64_or_zero(bytes, start);
     let found = bytes[check];
-    // A clean word, which nearly every one is, is told by its check byte and decoded no further.
-    if check_byte_with(table, data) == found {
+    let expected = check_byte_with(table, data);
+    // A clean word, which nearly every one is, is decoded no further.
+    if expected == found {
         return WordStatus::Clean(data);
     }
     let status = decode_word_with(table, data, found);

@@ -32,8 +32,7 @@ mend-apart-requires c κs =
     let h = c .before .before .header .given in
     let r = c .before .before .before .before .check-placement in
     let x = now (c .before .before .before .before .before .before .before .args .bytes) in
-    let p = placed-parse x (r .result) (r .ensures) (h .0 .0) (h .1) in
-    (
+    let p = placed-parse x (r .result) (r .ensures) (h .0 .0) (h .1) in (
       record { regions = parsed-count x (Parsed (h .0 .0)) p (h .0 .0) refl; accepted = placed-verdict x (r .result) (r .ensures) ∙ ap verdict (h .1) },
       parsed-wanted x (Parsed (h .0 .0)) p (h .0 .0) refl,
     )
