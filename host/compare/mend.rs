@@ -1,4 +1,4 @@
-//! Crate `repair`: mend's answer and every byte afterwards, beside mending.rs's reading of the page.
+//! Crate `mending`: mend's answer and every byte afterwards, beside mending.rs's reading of the page.
 
 use crate::images::{self, plain, plane, protected, sealed, FAMILIES};
 use crate::inputs::{hex, Entry, Random};

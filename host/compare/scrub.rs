@@ -1,4 +1,4 @@
-//! Crate `repair`: scrub's answer and every byte afterwards.
+//! Crate `scrubbing`: scrub's answer and every byte afterwards.
 
 use crate::answers::report_numbers;
 use crate::images::{self, FAMILIES};
