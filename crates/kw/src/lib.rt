@@ -12,6 +12,9 @@ ghost use Rattle.repair.specs.Answers.{leftBy};
 ghost use Rattle.scan.specs.Answers.{asScan};
 ghost use Rattle.kw.specs.Writes.{numberIn, answerIn, writeNumber, writeAnswer};
 ghost use Rattle.kw.specs.Numbers.{refusalNumber, parseNumbers, scanNumbers, reportNumbers, mendingNumbers, mendNumber, mendNumbers};
+
+mod regions;
+
 use repair::MendResult;
 use repair::Mending;
 use scan::ScanResult;
