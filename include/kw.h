@@ -147,7 +147,8 @@ uint32_t kw_parse(const uint8_t *image, size_t len, uint64_t answer[KW_PARSE_NUM
 
 /* Parses, and finds the region of this kind. Answers {1, first byte, byte past the last, flags}, the bytes
    as indices into `image`; zeros where no region has that kind; or {detail, 0, 0, 0} of parse's refusal.
-   The byte past the last is at most `len`, and in an empty region it is the first byte. */
+   The first byte is at most the byte past the last, and that at most `len`; in an empty region they are the
+   same. */
 uint32_t kw_region(const uint8_t *image, size_t len, uint16_t kind,
                    uint64_t answer[KW_REGION_NUMBERS]);
 

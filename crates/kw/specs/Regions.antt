@@ -1,7 +1,8 @@
 -- What kw_region and kw_region_at give back in numbers. (FORMAT 2, 5, 6)
 use mathlib.Core.List.{List, [], _∷_}
 use mathlib.Core.Option.{Option, none, some}
-use Prim.Native.Nat.{ℕ}
+use Prim.Native.Nat.{ℕ, _≤_}
+use lib.ListN.{length}
 use Rattle.model.specs.Layout.{Entry, start, end}
 use Rattle.model.specs.Parse.{Parsed, accepted, refused}
 use Rattle.layout.specs.Regions.{asEntry}
@@ -31,6 +32,11 @@ entryNumbers none = 0 ∷ 0 ∷ 0 ∷ 0 ∷ 0 ∷ 0 ∷ []
 abbrev pub regionAtNumbers : Parsed → Option Entry → List ℕ
 regionAtNumbers (accepted h) o = entryNumbers o
 regionAtNumbers (refused n d) o = d ∷ 0 ∷ 0 ∷ 0 ∷ 0 ∷ 0 ∷ []
+
+-- ---- what both answers are shown to be (proofs/Inside.antt): a place in the image x
+
+abbrev pub Inside : List ℕ → ℕ → ℕ → Type 0
+Inside x first past = (first ≤ past) × (past ≤ length x)
 
 -- ---- steps of code, for private contracts
 
