@@ -12,7 +12,8 @@
 #   make bench      time ours beside the Rust
 #   make record     make tests/answers anew from the Rust
 #   make recorded   see that tests/answers is what 'make record' makes
-#   make install    programs, header, libraries, kw.pc and man pages to prefix (/usr/local), below DESTDIR
+#   make install    programs, header, libraries, kw.pc and man pages to prefix (/usr/local), below DESTDIR;
+#                   PREFIX is another name for prefix, and bindir, libdir, includedir and mandir are GNU's
 #   make uninstall  remove what 'make install' with the same prefix and DESTDIR put there
 #   make clean      remove all that was built
 #
@@ -45,7 +46,7 @@ SONAME = libkw.so.$(call VERSION_OF,MAJOR)
 VERSION = $(call VERSION_OF,MAJOR).$(call VERSION_OF,MINOR).$(call VERSION_OF,PATCH)
 FUNCTIONS = $(shell sed -n 's/^[a-z].*[ *]\(kw_[a-z_]*\)[()].*/\1/p' include/kw.h)
 
-USED = target/staticlib/libkw.a host/build/$(SONAME) $(PROGRAMS) $(COMMAND) host/build/sample.kw
+USED = $(strip target/staticlib/libkw.a host/build/$(SONAME) $(PROGRAMS) $(COMMAND) host/build/sample.kw)
 
 all:
 	@sh host/prove.sh check
