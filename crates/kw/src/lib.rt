@@ -1,5 +1,7 @@
 // The C API: what firmware calls (include/kw.h). A `&[u8]` is a pointer and a length to C, a `&mut [u64; 4]` one pointer. Every number
 // of an answer is written at every call; nothing is allocated.
+mod regions;
+
 ghost use mathlib.Core.Path.{_≡_};
 ghost use Rattle.model.specs.Parse.{parse};
 ghost use Rattle.model.specs.Scan.{scan};
