@@ -1,14 +1,13 @@
 -- The word half, region by region, and mend's answer. Assumes nothing.
 use mathlib.Core.Path.{_≡_, refl, sym, ap, ap₂, _∙_, subst}
-use mathlib.Core.Bool.{Bool, false, _||_, cond}
+use mathlib.Core.Bool.{Bool, true, false, _||_, cond}
 use mathlib.Core.List.{List, [], _∷_, _++_}
 use Prim.Native.Nat.{ℕ, suc, _+_, _-_, _*_, _≤_, _<_}
 use native.Mathlib.Omega.{arith}
 use borrow.Author.Tests.{le-ltb}
-use lib.ListN.{length, take, drop, set, take-append-drop}
-use lib.Seq.{sets, take-all}
-use Rattle.model.specs.Bytes.{Bytes, at, wordAt, leBytes}
-use Rattle.model.specs.Parity.{Class, checkOf, cleanWord, correctedWord, uncorrectableWord, outcome}
+use lib.ListN.{length, take, drop, take-append-drop}
+use lib.Seq.{take-all}
+use Rattle.model.specs.Bytes.{Bytes}
 use Rattle.model.specs.Refusals.{fine, refuse}
 use Rattle.model.specs.Layout.{Entry, count, headerLength, directory, directoryOf}
 use Rattle.model.specs.Parse.{parseVerdict}
@@ -16,7 +15,7 @@ use Rattle.model.specs.Views.{nth, entriesFor, regionAt}
 use Rattle.model.specs.Scan.{Visit, visitsOver, visits, Codeword, Among, codewordsFrom, codewordsIn, codewords, total, classesAt, report, scanOf, scan, scanIn}
 use Rattle.model.specs.Scrub.{visitAt}
 use Rattle.model.specs.Mend as model
-use Rattle.model.specs.Mend.{mendVerdict, storedCodeword, fixAt, fixAll, mendBytes, changed, mend}
+use Rattle.model.specs.Mend.{mendVerdict, fixAt, fixAll, mendBytes, changed, mend}
 use Rattle.model.proofs.LayoutLaw.{length-directoryOf}
 use Rattle.model.proofs.ScanLaw.{anyOf, any-append, codewords-append, scan-all, visits-append, visits-to}
 use Rattle.view.proofs.EntriesForLaw.{entriesFor-is}
@@ -30,45 +29,10 @@ use Rattle.lemmas.proofs.StoredLaw.{stored-count}
 use Rattle.mending.proofs.VoteLaw.{header-part}
 use Rattle.scan.specs.Tally.{Totals, noTotals, tallied, marked, withClasses, reportedBy}
 use Rattle.scan.proofs.TallyLaw.{tally-append}
-use Rattle.scan.proofs.WordLaw.{class-clean, class-uncorrectable, class-flipped}
 use Rattle.mending.proofs.MetLaw.{met-append, met-apart}
-use Rattle.mending.specs.Met.{met, scanned}
+use Rattle.mending.specs.Scanned.{scanned}
+use Rattle.correcting.specs.Correct.{met}
 use Rattle.scan.specs.Runs.{visitsAt}
-
--- ---- what a word is left as
-
-module _ (x : List ℕ) (p : Codeword) where
-  pub fix-clean : (v : ℕ) → cleanWord v ≡ outcome (wordAt x (p .word)) (at x (p .check)) → x ≡ fixAt p x
-  unfolding fixAt
-  fix-clean v e = ap (λ (k : Class). storedCodeword k p x) (sym (class-clean x p v e))
-
-  pub fix-uncorrectable : uncorrectableWord ≡ outcome (wordAt x (p .word)) (at x (p .check)) → x ≡ fixAt p x
-  unfolding fixAt
-  fix-uncorrectable e = ap (λ (k : Class). storedCodeword k p x) (sym (class-uncorrectable x p e))
-
-  pub fix-put : (v c : ℕ) → correctedWord v ≡ outcome (wordAt x (p .word)) (at x (p .check)) → c ≡ checkOf v
-      → sets (set x (p .check) c) (8 * p .word) (leBytes 8 v) ≡ fixAt p x
-  unfolding fixAt
-  fix-put v c e g =
-      let f = class-flipped x p v e in
-      ap (λ (n : ℕ). sets (set x (p .check) n) (8 * p .word) (leBytes 8 v)) g
-      ∙ ap (λ (n : ℕ). sets (set x (p .check) (checkOf n)) (8 * p .word) (leBytes 8 n)) (f .2) ∙ ap (λ (k : Class). storedCodeword k p x) (sym (f .1))
-
--- ---- a run of words
-
-pub fix-next : (n word check k : ℕ) (x : List ℕ) → k < n
-    → fixAll (codewordsFrom (n - k) (word + k) (check + k)) x
-    ≡ fixAll (codewordsFrom (n - (k + 1)) (word + (k + 1)) (check + (k + 1))) (fixAt (record { word = word + k; check = check + k }) x)
-unfolding fixAll codewordsFrom
-fix-next n word check k x h =
-    let e : n - k ≡ suc (n - (k + 1)) = omega arith in
-    let a : suc (word + k) ≡ word + (k + 1) = omega arith in
-    let b : suc (check + k) ≡ check + (k + 1) = omega arith in
-    rw (e, a, b)
-
-pub fix-done : (n word check k : ℕ) (x : List ℕ) → n ≤ k → fixAll (codewordsFrom (n - k) (word + k) (check + k)) x ≡ x
-unfolding fixAll codewordsFrom
-fix-done n word check k x h = let e : n - k ≡ 0 = omega arith in rw e
 
 -- ---- the entries before i are done
 
@@ -92,7 +56,7 @@ fixedTo x i = fixAll (codewordsIn (firstVisits x i)) x
 
 -- what is counted by then
 unfoldable pub talliedTo : List ℕ → ℕ → Totals
-talliedTo x i = tallied (anyOf (firstVisits x i)) (met x (codewordsIn (firstVisits x i)))
+talliedTo x i = tallied (anyOf (firstVisits x i)) (met true x (codewordsIn (firstVisits x i)))
 
 pub none-fixed : (x : List ℕ) → fixedTo x 0 ≡ x
 unfolding fixedTo fixAll visitsOver codewordsIn
@@ -166,19 +130,19 @@ module _ (x : List ℕ) (v : mendVerdict x ≡ fine) (b : Bytes x) where
 
   -- and is counted as a scan of x counts it
   pub tally-next : (i : ℕ) (y : List ℕ) (c : Totals) → y ≡ fixedTo x i → c ≡ talliedTo x i
-      → withClasses (marked c (anyOf (visitsAt (count x) y i))) (met y (codewordsIn (visitsAt (count x) y i))) ≡ talliedTo x (suc i)
+      → withClasses (marked c (anyOf (visitsAt (count x) y i))) (met true y (codewordsIn (visitsAt (count x) y i))) ≡ talliedTo x (suc i)
   unfolding talliedTo fixedTo first
   tally-next i y c e f =
       let vs = next-visit i in
-      ap (λ (ws : List Visit). withClasses (marked c (anyOf ws)) (met y (codewordsIn ws))) (fixed-visit i y e)
-      ∙ ap₂ (λ (t : Totals) (z : List ℕ). withClasses (marked t (anyOf vs)) (met z (codewordsIn vs))) f e
-      ∙ tally-append (anyOf (firstVisits x i) || anyOf vs) (met x (first i)) (met (fixAll (first i) x) (codewordsIn vs))
-      ∙ sym (ap₂ tallied (ap anyOf (first-next i) ∙ any-append (firstVisits x i) vs) (ap (met x) (words-next i) ∙ met-append x (first i) (codewordsIn vs)))
+      ap (λ (ws : List Visit). withClasses (marked c (anyOf ws)) (met true y (codewordsIn ws))) (fixed-visit i y e)
+      ∙ ap₂ (λ (t : Totals) (z : List ℕ). withClasses (marked t (anyOf vs)) (met true z (codewordsIn vs))) f e
+      ∙ tally-append (anyOf (firstVisits x i) || anyOf vs) (met true x (first i)) (met true (fixAll (first i) x) (codewordsIn vs))
+      ∙ sym (ap₂ tallied (ap anyOf (first-next i) ∙ any-append (firstVisits x i) vs) (ap (met true x) (words-next i) ∙ met-append x (first i) (codewordsIn vs)))
 
   pub tally-all : (i : ℕ) → count x ≤ i → talliedTo x i ≡ scanned x
   unfolding talliedTo scanned codewords
   tally-all i h =
-      ap (λ (vs : List Visit). tallied (anyOf vs) (met x (codewordsIn vs))) (all-visits x i h)
+      ap (λ (vs : List Visit). tallied (anyOf vs) (met true x (codewordsIn vs))) (all-visits x i h)
       ∙ ap (tallied (anyOf (visits x))) (met-apart (length x) x b refl (apart x v))
 
 pub all-fixed : (x : List ℕ) (i : ℕ) → count x ≤ i → fixedTo x i ≡ mendWords x

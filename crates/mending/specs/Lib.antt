@@ -1,3 +1,3 @@
 pub mod Answers
 pub mod Mendable
-pub mod Met
+pub mod Scanned

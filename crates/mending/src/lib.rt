@@ -14,7 +14,7 @@ use overlap::check_placement;
 use scan::ScanResult;
 use scan::scan_result;
 use view::Header;
-use words::mend_regions;
+use words::mend_words;
 
 // What was found before anything was written, how many bytes changed, and whether no word is left uncorrectable.
 pub struct Mending {
@@ -45,7 +45,7 @@ fn mend_apart(bytes: &mut [u8], header: Header) -> Mending
     ensures leaves { λ r. ⌜ now (bytes .exit) ≡ model.mendBytes (now (bytes .entry)) ⌝ }
 {
     let in_header = mend_header(bytes, header);
-    let tally = mend_regions(bytes, header);
+    let tally = mend_words(bytes, header);
     let report = scan_result(tally);
     Mending {
         report,

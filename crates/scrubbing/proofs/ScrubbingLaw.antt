@@ -3,82 +3,46 @@ use mathlib.Core.Path.{_≡_, refl, sym, ap, ap₂, _∙_, subst}
 use mathlib.Core.Bool.{Bool, false}
 use mathlib.Core.List.{List, [], _∷_}
 use mathlib.Core.Option.{none}
-use Prim.Native.Nat.{ℕ, suc, _+_, _-_, _*_, _^_, _≤_, _<_}
+use Prim.Native.Nat.{ℕ, suc, _≤_}
 use native.Mathlib.Omega.{arith}
 use lib.ListN.{length}
 use borrow.Author.Tests.{le-ltb}
-use lib.Seq.{sets, length-sets}
-use Rattle.model.specs.Bytes.{at, wordAt, leBytes}
-use Rattle.model.specs.Parity.{Class, clean, flipped, uncorrectable, flipWord, decode, Outcome, cleanWord, correctedWord, uncorrectableWord, outcomeAs, outcome}
+use Rattle.model.specs.Bytes.{wordAt}
+use Rattle.model.specs.Parity.{Class, clean, flipped, uncorrectable, outcomeAs}
 use Rattle.model.specs.Refusals.{fine, refuse}
 use Rattle.model.specs.Layout.{headerLength, count, directory}
 use Rattle.model.specs.Parse.{parseVerdict}
 use Rattle.model.specs.Views.{entriesFor, regionAt}
-use Rattle.model.specs.Scan.{Codeword, codewordsFrom, codewordsIn, classAt, isCorrected, total, report}
+use Rattle.model.specs.Scan.{Codeword, codewordsIn, classAt, isCorrected, total, report}
 use Rattle.model.specs.Scrub.{State, storedWord, scrubWord, scrubWords, scrubVisits, scrubRegion, scrubFrom, reported, scrub}
 use Rattle.model.proofs.ParseLaw.{accepted-long}
 use Rattle.model.proofs.ScanLaw.{anyOf, mark, visits-words}
-use Rattle.scan.specs.Tally.{Totals, noTotals, counted, reportedBy}
-use Rattle.scan.proofs.TallyLaw.{counted-tally}
-use Rattle.scan.proofs.WordLaw.{class-clean, class-uncorrectable, class-flipped}
+use Rattle.scan.specs.Tally.{Totals, noTotals, marked, counted, withClasses, reportedBy}
+use Rattle.scan.proofs.TallyLaw.{count-next, count-none, counted-tally}
+use Rattle.correcting.specs.Correct.{correctAt, correctAll, met}
 use Rattle.scrubbing.specs.Stands.{Stands, scrubIn}
 use Rattle.scan.specs.Runs.{visitsAt}
 
--- ---- what a word is left as
+-- ---- words corrected by themselves
 
-module _ (x : List ℕ) (p : Codeword) where
-  pub kept-clean : (v : ℕ) → cleanWord v ≡ outcome (wordAt x (p .word)) (at x (p .check)) → x ≡ storedWord (classAt x p) p x
-  kept-clean v e = ap (λ (k : Class). storedWord k p x) (sym (class-clean x p v e))
-
-  pub kept-uncorrectable : uncorrectableWord ≡ outcome (wordAt x (p .word)) (at x (p .check)) → x ≡ storedWord (classAt x p) p x
-  kept-uncorrectable e = ap (λ (k : Class). storedWord k p x) (sym (class-uncorrectable x p e))
-
-  pub put-back : (v : ℕ) → correctedWord v ≡ outcome (wordAt x (p .word)) (at x (p .check))
-      → sets x (8 * p .word) (leBytes 8 v) ≡ storedWord (classAt x p) p x
-  put-back v e =
-      let f = class-flipped x p v e in
-      ap (λ (n : ℕ). sets x (8 * p .word) (leBytes 8 n)) (f .2) ∙ ap (λ (k : Class). storedWord k p x) (sym (f .1))
-
--- ---- one word
-
-pub stored-length : (r : Class) (p : Codeword) (x : List ℕ) → length (storedWord r p x) ≡ length x
-stored-length clean p x = refl
-stored-length (flipped i) p x = length-sets x (8 * p .word) (leBytes 8 (flipWord i (wordAt x (p .word))))
-stored-length uncorrectable p x = refl
-
--- the code's step is the definition's
-pub one-word : (t : Totals) (x y : List ℕ) (p : Codeword) (o : Outcome) (s : State) → Stands t x s → o ≡ outcome (wordAt x (p .word)) (at x (p .check))
-    → y ≡ storedWord (classAt x p) p x → Stands (counted t o) y (scrubWord p s)
-unfolding outcome classAt scrubWord
-one-word t x y p o s k e f =
+-- each takes the state where scrub's word takes it
+word-stands : (t : Totals) (x : List ℕ) (p : Codeword) (s : State) → Stands t x s → Stands (counted t (outcomeAs (classAt x p) (wordAt x (p .word)))) (correctAt false p x) (scrubWord p s)
+unfolding scrubWord correctAt
+word-stands t x p s k =
     record {
-      image = f ∙ ap (λ (z : List ℕ). storedWord (decode (wordAt z (p .word)) (at z (p .check))) p z) (k .image);
+      image = ap (λ (z : List ℕ). storedWord (classAt z p) p z) (k .image);
       counts =
-          ap₂ counted (k .counts) (e ∙ ap (λ (z : List ℕ). outcomeAs (decode (wordAt z (p .word)) (at z (p .check))) (wordAt z (p .word))) (k .image))
-          ∙ counted-tally (s .visited) (s .met) (decode (wordAt (s .image) (p .word)) (at (s .image) (p .check))) (wordAt (s .image) (p .word));
+          ap₂ counted (k .counts) (ap (λ (z : List ℕ). outcomeAs (classAt z p) (wordAt z (p .word))) (k .image))
+          ∙ counted-tally (s .visited) (s .met) (classAt (s .image) p) (wordAt (s .image) (p .word));
     }
 
--- ---- a run of words
-
--- the words ps take a state that the counts and the image stand for to t
-pub record Left (c : Totals) (x : List ℕ) (ps : List Codeword) (t : State) : Type 0 where
-  pub state : State
-  pub stands : Stands c x state
-  pub ends : scrubWords ps state ≡ t
-
-pub words-next : (n word check k : ℕ) (s : State) → k < n
-    → scrubWords (codewordsFrom (n - k) (word + k) (check + k)) s
-    ≡ scrubWords (codewordsFrom (n - (k + 1)) (word + (k + 1)) (check + (k + 1))) (scrubWord (record { word = word + k; check = check + k }) s)
-unfolding scrubWords codewordsFrom
-words-next n word check k s h =
-    let e : n - k ≡ suc (n - (k + 1)) = omega arith in
-    let a : suc (word + k) ≡ word + (k + 1) = omega arith in
-    let b : suc (check + k) ≡ check + (k + 1) = omega arith in
-    rw (e, a, b)
-
-pub words-done : (n word check k : ℕ) (s : State) → n ≤ k → scrubWords (codewordsFrom (n - k) (word + k) (check + k)) s ≡ s
-unfolding scrubWords codewordsFrom
-words-done n word check k s h = let e : n - k ≡ 0 = omega arith in rw e
+words-stand : (ps : List Codeword) (t : Totals) (x : List ℕ) (s : State) → Stands t x s → Stands (withClasses t (met false x ps)) (correctAll false ps x) (scrubWords ps s)
+unfolding met correctAll scrubWords
+words-stand [] t x s k = subst (λ (z : Totals). Stands z x s) (sym (count-none t)) k
+words-stand (p ∷ ps) t x s k =
+    let y = correctAt false p x in
+    subst (λ (z : Totals). Stands z (correctAll false ps y) (scrubWords ps (scrubWord p s))) (count-next t (classAt x p) (wordAt x (p .word)) (met false y ps))
+    (words-stand ps (counted t (outcomeAs (classAt x p) (wordAt x (p .word)))) y (scrubWord p s) (word-stands t x p s k))
 
 -- ---- where nothing more is counted as corrected, nothing is written
 
@@ -109,10 +73,16 @@ words-same (p ∷ ps) s e =
 module _ (n i : ℕ) where
   -- the mark of its visit, then its words
   pub region-stands : (t : Totals) (x : List ℕ) (s : State) → Stands t x s → (r : Totals) (y : List ℕ)
-      → Stands r y (scrubWords (codewordsIn (visitsAt n x i)) (mark (anyOf (visitsAt n x i)) s)) → Stands r y (scrubIn n i s)
+      → r ≡ withClasses (marked t (anyOf (visitsAt n x i))) (met false x (codewordsIn (visitsAt n x i))) → y ≡ correctAll false (codewordsIn (visitsAt n x i)) x
+      → Stands r y (scrubIn n i s)
   unfolding scrubIn
-  region-stands t x s k r y h =
-      subst (Stands r y) (sym (visits-words (visitsAt n x i) s) ∙ ap (λ (z : List ℕ). scrubVisits (visitsAt n z i) s) (k .image)) h
+  region-stands t x s k r y e f =
+      let vs = visitsAt n x i in
+      let ps = codewordsIn vs in
+      let m : Stands (marked t (anyOf vs)) x (mark (anyOf vs) s) =
+      record { image = k .image; counts = ap (λ (c : Totals). marked c (anyOf vs)) (k .counts) } in
+      subst (Stands r y) (sym (visits-words vs s) ∙ ap (λ (z : List ℕ). scrubVisits (visitsAt n z i) s) (k .image))
+      (rw (e, f) (words-stand ps (marked t (anyOf vs)) x (mark (anyOf vs) s) m))
 
   -- it writes nothing where it corrects nothing
   region-same : (s : State) → corrections (scrubIn n i s) ≡ corrections s → scrubIn n i s .image ≡ s .image

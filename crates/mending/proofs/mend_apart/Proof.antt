@@ -18,7 +18,7 @@ use Rattle.lemmas.specs.Steps.{mendHeader, mendWords}
 use Rattle.lemmas.proofs.Apart.{accepted}
 use Rattle.scan.specs.Answers.{asScan}
 use Rattle.scan.specs.Tally.{Totals, asTotals, reportedBy}
-use Rattle.mending.specs.Met.{scanned}
+use Rattle.mending.specs.Scanned.{scanned}
 use Rattle.mending.proofs.VoteLaw.{changed-most}
 use Rattle.mending.proofs.MendingLaw.{after-header, mended-all, header-scanned, scanned-report, all-stored, mend-fine}
 use Rattle.mending.proofs.mend_apart.Statement.{statement}
@@ -28,8 +28,8 @@ mend-header-requires : tie.Need-mend-header-requires
 mend-header-requires c κs =
     c .before .before .pre
 
-mend-regions-requires : tie.Need-mend-regions-requires
-mend-regions-requires c κs =
+mend-words-requires : tie.Need-mend-words-requires
+mend-words-requires c κs =
     let h = c .before .before .before .mend-header in
     let bs = c .before .before .before .before .before .slice-known in
     let s = c .before .before .before .before .before .before in
@@ -47,7 +47,7 @@ module _ (x y : List ℕ) (v : mendVerdict x ≡ fine) (b : Bytes x) (h : ℕ) (
 
 add-t10 : tie.Need-add-t10
 add-t10 c =
-    let w = c .before .before .before .before .mend-regions in
+    let w = c .before .before .before .before .mend-words in
     let h = c .before .before .before .before .before .before .before .before .mend-header in
     let bs = c .before .before .before .before .before .before .before .before .before .before .slice-known in
     let s = c .before .before .before .before .before .before .before .before .before .before .before in
@@ -58,7 +58,7 @@ add-t10 c =
 returns : tie.Need-returns
 returns c =
     let r = c .before .before .scan-result in
-    let w = c .before .before .before .before .before .mend-regions in
+    let w = c .before .before .before .before .before .mend-words in
     let h = c .before .before .before .before .before .before .before .before .before .mend-header in
     let bs = c .before .before .before .before .before .before .before .before .before .before .before .slice-known in
     let s = c .before .before .before .before .before .before .before .before .before .before .before .before in
@@ -80,7 +80,7 @@ mend-apart-spec =
     tie.close
     (tie.spec
     mend-header-requires
-    mend-regions-requires
+    mend-words-requires
     (λ c κs. search needs)
     add-t10
     (λ c κs. search needs)

@@ -20,7 +20,7 @@ use Rattle.view.proofs.AnswersLaw.{parsed-fine, parsed-count, parsed-refused}
 use Rattle.scan.specs.Tally.{Totals, asTotals, Room}
 use Rattle.scan.proofs.TallyLaw.{room-start}
 use Rattle.scrubbing.specs.Stands.{Stands, scrubIn}
-use Rattle.scrubbing.proofs.ScrubbingLaw.{image-same, region-is, from-next, from-failed, from-done, scrub-failed, scrub-starts, start-stands, stands-report}
+use Rattle.scrubbing.proofs.ScrubbingLaw.{region-stands, image-same, region-is, from-next, from-failed, from-done, scrub-failed, scrub-starts, start-stands, stands-report}
 use Rattle.scrubbing.proofs.scrub.Statement.{statement}
 use Rattle.scrubbing.proofs.scrub.Tie as tie
 
@@ -110,8 +110,8 @@ returns-2 c =
     ∙ ap (λ (m : ℕ). scrubFrom m (a .loop .i) s) z ∙ q .ends in
     (ap (λ (r : Scrubbed). r .report) e, q .stands .image ∙ ap (λ (r : Scrubbed). r .image) e)
 
-scrub-region-requires : tie.Need-scrub-region-requires Inv-loop μ-loop
-scrub-region-requires c κs =
+correct-region-requires : tie.Need-correct-region-requires Inv-loop μ-loop
+correct-region-requires c κs =
     let a = c .before .before .before .before .before .before in
     let r = a .loop .inv .3 in
     (record { words = omega arith; counts = r .counts }, a .before .before .fill-check-table .ensures)
@@ -135,13 +135,15 @@ loop-again c =
     ))
     (λ w. (subst (Checked x) (sym (w .1)) (a .loop .inv .5 (sym (w .0 .left))), w .2 ∙ sym (w .0 .left)))
     (j .if2 .came) in
-    let t = asTotals (o .scrub-region .result) in
-    let y = o .scrub-region .last .1 .0 in
-    let e = o .scrub-region .ensures .1 in (
+    let t = asTotals (o .correct-region .result) in
+    let y = o .correct-region .last .1 .0 in
+    let h = j .if2 .header in
+    let e : (s : State) → Stands (asTotals (a .loop .tally)) x s → Stands t y (scrubIn (h .«region_count») (a .loop .i) s) =
+    λ s k. region-stands (h .«region_count») (a .loop .i) (asTotals (a .loop .tally)) x s k t y (o .correct-region .ensures .1 .0) (o .correct-region .ensures .0) in (
       omega arith,
       omega (arith, c .before .bytes .given),
-      omega (arith, o .scrub-region .ensures .0 .0),
-      o .scrub-region .ensures .0 .1,
+      omega (arith, o .correct-region .ensures .1 .1 .0),
+      o .correct-region .ensures .1 .1 .1,
       turn (now (g .bytes)) n (a .loop .i) (asTotals (a .loop .tally)) t x y (j .if2 .header) (ready .0) (omega arith) (a .loop .inv .4) e,
       λ f. still (now (g .bytes)) n (a .loop .i) (asTotals (a .loop .tally)) t x y (j .if2 .header) (ready .0) (omega arith) (a .loop .inv .4) e (sym (ready .1) ∙ f),
     )
@@ -182,7 +184,7 @@ scrub-spec =
     (λ c. search needs)
     same-length-2
     returns-2
-    scrub-region-requires
+    correct-region-requires
     (λ c. search needs)
     (λ c. search needs)
     loop-again
