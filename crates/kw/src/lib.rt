@@ -12,15 +12,14 @@ ghost use Rattle.repair.specs.Answers.{leftBy};
 ghost use Rattle.scan.specs.Answers.{asScan};
 ghost use Rattle.kw.specs.Writes.{numberIn, answerIn, writeNumber, writeAnswer};
 ghost use Rattle.kw.specs.Numbers.{refusalNumber, parseNumbers, scanNumbers, reportNumbers, mendingNumbers, mendNumber, mendNumbers};
-
-mod regions;
-
 use repair::MendResult;
 use repair::Mending;
 use scan::ScanResult;
 use view::ParseResult;
 use writer::Row;
 use writer::WriteResult;
+
+mod regions;
 
 // {1, words, corrected, uncorrectable}, or zeros for nothing.
 fn report_numbers(scan: ScanResult) -> [u64; 4]
