@@ -189,7 +189,7 @@ host/build/firmware host/build/make_image: host/build/%: $(KW_LIB)
 host/build/stack: $(OURS)
 	$(CC_STRICT) -O1 -fno-omit-frame-pointer host/stack/main.c $(OURS) -pthread -o $@
 
-# Of the archive's names only those of kw.h are to be seen.
+# The archive as it is: its objects are position independent, and show the functions of kw.h alone.
 host/build/$(SONAME): $(KW_LIB)
-	gcc -shared -nostartfiles -Wl,-z,defs -Wl,-soname,$(SONAME) -Wl,--version-script=include/kw.map \
+	gcc -shared -nostartfiles -Wl,-z,defs -Wl,-soname,$(SONAME) \
 		-Wl,--whole-archive $(KW_LIB) -Wl,--no-whole-archive -o $@

@@ -69,6 +69,7 @@ installed() {
     bin=$work/dest/opt/kw/bin man=$work/dest/opt/kw/share/man
     "$bin/kw-report" <tests/answers/programs/damaged.kw | cmp - tests/answers/programs/damaged.report || return 1
     "$bin/kw-scrub" <tests/answers/programs/damaged.kw 2>"$work/line" | cmp - tests/answers/programs/damaged.scrub || return 1
+    [ ! -e host/kw.c ] || "$bin/kw" version || return 1
     for page in docs/man/kw*.1; do
         [ ! -e "$page" ] || cmp "$page" "$man/man1/${page##*/}" || return 1
     done

@@ -14,8 +14,7 @@ pub fn same(group: &mut Group, bytes: &[u8]) {
     let parsed = WireView::parse(bytes);
     let count = parsed.as_ref().map_or(0, |view| view.region_count());
     let view = parsed.as_ref().ok();
-    let entries: Vec<Entry> =
-        (0..count).filter_map(|i| view?.region_at(i)).map(entry).collect();
+    let entries: Vec<Entry> = (0..count).filter_map(|i| view?.region_at(i)).map(entry).collect();
     for kind in kinds(&entries) {
         let rusts = api_answer(&parsed, |view| api_place(view, view.find_region(kind)));
         group.same(api::region(bytes, kind), rusts, || format!("kw_region {kind} {}", input()));

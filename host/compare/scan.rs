@@ -1,6 +1,6 @@
 //! Crate `scan`: one region against its plane, and the whole scan.
 
-use crate::answers::{entry, api_scan, report_numbers, three_numbers};
+use crate::answers::{api_scan, entry, report_numbers, three_numbers};
 use crate::images::{self, plane, protected, FAMILIES};
 use crate::inputs::{hex, image, Entry, Random, RegionMaker};
 use crate::tally::Group;

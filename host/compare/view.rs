@@ -1,6 +1,6 @@
 //! Crate `view`: parse, and the lookups on the image that was parsed and on other bytes.
 
-use crate::answers::{entry, entry_numbers, api_numbers, parse_numbers, place_in, place_numbers};
+use crate::answers::{api_numbers, entry, entry_numbers, parse_numbers, place_in, place_numbers};
 use crate::images::{self, FAMILIES};
 use crate::inputs::{hex, Entry, RegionMaker};
 use crate::tally::Group;

@@ -1,6 +1,6 @@
 use crate::answers::{
-    api_answer, api_entry, api_numbers, api_place, entry, entry_numbers, parse_numbers, part_numbers,
-    place_in, place_numbers,
+    api_answer, api_entry, api_numbers, api_place, entry, entry_numbers, parse_numbers,
+    part_numbers, place_in, place_numbers,
 };
 use crate::image::{image_text, spaced};
 use crate::images::{self, plain, plane, protected};
