@@ -1,4 +1,4 @@
-// The vote over three copies of the header's bytes. (FORMAT 3)
+// What three copies of a header's bytes say together: bytes, numbers and directory entries by the bitwise majority. (FORMAT 3)
 ghost use mathlib.Core.Path.{_≡_};
 ghost use Prim.Native.Nat.{ℕ, _+_, _*_, _<_, _≤_};
 ghost use lib.ListN.{length, take, drop};
@@ -8,11 +8,14 @@ ghost use Rattle.model.specs.Layout.{voted, prologue, differs, headerLength};
 ghost use Rattle.model.proofs.LayoutLaw.{entryIn};
 ghost use Rattle.layout.specs.Regions.{regionOf};
 ghost use Rattle.model.proofs.CopiesLaw.{offAt};
+use layout::DIR_ENTRY_BYTES;
+use layout::DIRECTORY_OFFSET;
+use layout::PROLOGUE_BYTES;
 use layout::Region;
 use scalar::maj3;
 
 // Byte j of the vote over three copies of k bytes from base on.
-pub(crate) fn vote_at(bytes: &[u8], base: usize, k: usize, j: usize) -> u8
+fn vote_at(bytes: &[u8], base: usize, k: usize, j: usize) -> u8
     requires { ⌜ (base + 3 * k ≤ length (now bytes)) × (j < k) ⌝ }
     ensures { λ r. ⌜ r ≡ at (voted base k (now (bytes .entry))) j ⌝ }
 {
@@ -23,8 +26,8 @@ pub(crate) fn vote_at(bytes: &[u8], base: usize, k: usize, j: usize) -> u8
     )
 }
 
-// The number in two voted bytes, and in four.
-pub(crate) fn voted_u16(bytes: &[u8], base: usize, k: usize, p: usize) -> u16
+// The number in the two voted bytes from p on.
+pub fn voted_u16(bytes: &[u8], base: usize, k: usize, p: usize) -> u16
     requires { ⌜ (base + 3 * k ≤ length (now bytes)) × (p + 2 ≤ k) ⌝ }
     ensures { λ r. ⌜ r ≡ read 2 (voted base k (now (bytes .entry))) p ⌝ }
 {
@@ -33,13 +36,14 @@ pub(crate) fn voted_u16(bytes: &[u8], base: usize, k: usize, p: usize) -> u16
     b0 as u16 + 256 * (b1 as u16)
 }
 
-pub(crate) fn voted_u32(bytes: &[u8], base: usize, k: usize, p: usize) -> u32
+// The number in the four voted bytes from p on.
+pub fn voted_u32(bytes: &[u8], base: usize, k: usize, p: usize) -> u32
     requires { ⌜ (base + 3 * k ≤ length (now bytes)) × (p + 4 ≤ k) ⌝ }
     ensures { λ r. ⌜ r ≡ read 4 (voted base k (now (bytes .entry))) p ⌝ }
 {
     let low = voted_u16(bytes, base, k, p);
     let high = voted_u16(bytes, base, k, p + 2);
-    low as u32 + 65536 * (high as u32)
+    low as u32 + 0x1_0000 * (high as u32)
 }
 
 // Some copy of byte j differs from the vote.
@@ -58,7 +62,7 @@ fn copies_differ_at(bytes: &[u8], base: usize, k: usize, j: usize) -> bool
 }
 
 // Some copy of k bytes from base on differs from the vote.
-pub(crate) fn copies_differ(bytes: &[u8], base: usize, k: usize) -> bool
+pub fn copies_differ(bytes: &[u8], base: usize, k: usize) -> bool
     requires { ⌜ base + 3 * k ≤ length (now bytes) ⌝ }
     ensures { λ r. ⌜ r ≡ differs (thrice (voted base k (now (bytes .entry)))) (drop base (now (bytes .entry))) ⌝ }
 {
@@ -73,31 +77,47 @@ pub(crate) fn copies_differ(bytes: &[u8], base: usize, k: usize) -> bool
 }
 
 // The checksum of the voted prologue's first twelve bytes.
-pub(crate) fn voted_checksum(bytes: &[u8]) -> u32
+pub fn voted_checksum(bytes: &[u8]) -> u32
     requires { ⌜ 48 ≤ length (now bytes) ⌝ }
     ensures { λ r. ⌜ r ≡ model.crc32 (take 12 (prologue (now (bytes .entry)))) ⌝ }
 {
     let mut start = [0u8; 12];
     let mut j: usize = 0;
     while j < 12 {
-        start[j] = vote_at(bytes, 0, 16, j);
+        start[j] = vote_at(bytes, 0, PROLOGUE_BYTES, j);
         j += 1;
     }
     crc::crc32(&start)
 }
 
+// The number in the two bytes from byte `field` on of directory entry i of n.
+pub fn entry_u16(bytes: &[u8], n: usize, i: usize, field: usize) -> u16
+    requires { ⌜ (headerLength n ≤ length (now bytes)) × (i < n) × (field + 2 ≤ 16) ⌝ }
+    ensures { λ r. ⌜ r ≡ read 2 (voted 48 (16 * n) (now (bytes .entry))) (16 * i + field) ⌝ }
+{
+    let at = DIR_ENTRY_BYTES * i + field;
+    voted_u16(bytes, DIRECTORY_OFFSET, DIR_ENTRY_BYTES * n, at)
+}
+
+// The number in the four bytes from byte `field` on of directory entry i of n.
+pub fn entry_u32(bytes: &[u8], n: usize, i: usize, field: usize) -> u32
+    requires { ⌜ (headerLength n ≤ length (now bytes)) × (i < n) × (field + 4 ≤ 16) ⌝ }
+    ensures { λ r. ⌜ r ≡ read 4 (voted 48 (16 * n) (now (bytes .entry))) (16 * i + field) ⌝ }
+{
+    let at = DIR_ENTRY_BYTES * i + field;
+    voted_u32(bytes, DIRECTORY_OFFSET, DIR_ENTRY_BYTES * n, at)
+}
+
 // Directory entry i of n.
-pub(crate) fn voted_region(bytes: &[u8], n: usize, i: usize) -> Region
+pub fn voted_region(bytes: &[u8], n: usize, i: usize) -> Region
     requires { ⌜ (headerLength n ≤ length (now bytes)) × (i < n) ⌝ }
     ensures { λ r. ⌜ r ≡ regionOf (entryIn n (now (bytes .entry)) i) ⌝ }
 {
-    let k = 16 * n;
-    let p = 16 * i;
     Region {
-        kind: voted_u16(bytes, 48, k, p),
-        flags: voted_u16(bytes, 48, k, p + 2),
-        word_offset: voted_u32(bytes, 48, k, p + 4),
-        word_length: voted_u32(bytes, 48, k, p + 8),
-        covers: voted_u16(bytes, 48, k, p + 12),
+        kind: entry_u16(bytes, n, i, 0),
+        flags: entry_u16(bytes, n, i, 2),
+        word_offset: entry_u32(bytes, n, i, 4),
+        word_length: entry_u32(bytes, n, i, 8),
+        covers: entry_u16(bytes, n, i, 12),
     }
 }
