@@ -1,4 +1,4 @@
-use crate::answers::{entry, api_scan, report_numbers};
+use crate::answers::{api_scan, entry, report_numbers};
 use crate::image::{image_text, spaced};
 use crate::images::{self, plain, plane, protected};
 use crate::inputs::{Entry, Random, RegionMaker};

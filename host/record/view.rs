@@ -1,5 +1,5 @@
 use crate::answers::{
-    entry, entry_numbers, api_numbers, parse_numbers, part_numbers, place_in, place_numbers,
+    api_numbers, entry, entry_numbers, parse_numbers, part_numbers, place_in, place_numbers,
 };
 use crate::image::{image_text, spaced};
 use crate::images::{self, plain, plane, protected};

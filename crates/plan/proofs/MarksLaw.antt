@@ -1,6 +1,6 @@
 -- The marks of the kinds that were seen. Assumes nothing.
 use mathlib.Core.Path.{_≡_, refl, sym, ap, _∙_}
-use mathlib.Core.Bool.{Bool, true, false, _||_}
+use mathlib.Core.Bool.{Bool, true, false, _||_, or-true, or-false}
 use mathlib.Core.List.{List}
 use Prim.Native.Nat.{ℕ, zero, suc, _/_, _%_, _^_, _≤_, _<_}
 use native.Mathlib.Omega.{arith}
@@ -23,14 +23,6 @@ bit-other zero (suc b) h = bit-suc 1 b ∙ bit-none b
 bit-other (suc a) zero h = bit-zero (2 ^ suc a) ∙ ap isOne (pow-even a)
 bit-other (suc a) (suc b) h = bit-suc (2 ^ suc a) b ∙ ap (λ (n : ℕ). bit n b) (pow-half a) ∙ bit-other a b (λ e. h (ap suc e))
 
-or-comm-false : (t : Bool) → t || false ≡ t
-or-comm-false true = refl
-or-comm-false false = refl
-
-or-comm-true : (t : Bool) → t || true ≡ true
-or-comm-true true = refl
-or-comm-true false = refl
-
 same-place : (k x : ℕ) → k / 64 ≡ x / 64 → k % 64 ≡ x % 64 → k ≡ x
 same-place k x e f = omega (arith, e, f)
 
@@ -42,11 +34,11 @@ mark-sets plan k x l = go (eqb (k / 64) (x / 64)) refl (eqb (k % 64) (x % 64)) r
     low : (b : Bool) → k / 64 ≡ x / 64 → (t : Bool) → eqb (k % 64) (x % 64) ≡ t → b || bit (2 ^ (k % 64)) (x % 64) ≡ eqb k x || b
     low b q true f =
         let r : k % 64 ≡ x % 64 = eqb-true (k % 64) (x % 64) f in
-        ap (λ (n : ℕ). b || bit (2 ^ (k % 64)) n) (sym r) ∙ ap (λ (z : Bool). b || z) (bit-own (k % 64)) ∙ or-comm-true b
+        ap (λ (n : ℕ). b || bit (2 ^ (k % 64)) n) (sym r) ∙ ap (λ (z : Bool). b || z) (bit-own (k % 64)) ∙ or-true b
         ∙ ap (λ (z : Bool). z || b) (sym (eq-eqb k x (same-place k x q r)))
     low b q false f =
         let r : k % 64 ≡ x % 64 → ⊥ = eqb-false (k % 64) (x % 64) f in
-        ap (λ (z : Bool). b || z) (bit-other (k % 64) (x % 64) r) ∙ or-comm-false b
+        ap (λ (z : Bool). b || z) (bit-other (k % 64) (x % 64) r) ∙ or-false b
         ∙ ap (λ (z : Bool). z || b) (sym (ne-eqb k x (λ z. r (ap (λ (n : ℕ). n % 64) z))))
 
     go : (s : Bool) → eqb (k / 64) (x / 64) ≡ s → (t : Bool) → eqb (k % 64) (x % 64) ≡ t

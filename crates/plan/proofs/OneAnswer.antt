@@ -1,13 +1,7 @@
 -- No two answers fit one promise, nor two plans that are left. Assumes nothing.
-use mathlib.Core.Path.{_≡_, refl, ap}
-use Prim.Native.Nat.{ℕ}
-use native.Mathlib.Omega.{arith}
 use denote.Ref.{now}
 use Rattle.model.proofs.OneAnswer.{OneAnswer, OneAnswerAnd, agree}
-use Rattle.error.specs.declared.Check.{Check}
-use Rattle.error.specs.declared.Check.the-variants.{Fine, Refuse}
-use Rattle.error.specs.Refused.{asCheck}
-use Rattle.error.proofs.OneAnswer.{one-refusal}
+use Rattle.error.proofs.OneAnswer.{one-check}
 use Rattle.plan.proofs.rows.empty_plan.Reads as empty-plan
 use Rattle.plan.proofs.rows.check_row.Reads as check-row
 use Rattle.plan.proofs.rows.row_at.Reads as row-at
@@ -17,12 +11,6 @@ use Rattle.plan.proofs.rows.words_of.Reads as words-of
 use Rattle.plan.proofs.rows.is_protected.Reads as is-protected
 use Rattle.plan.proofs.rows.plane_words.Reads as plane-words
 use Rattle.plan.proofs.sizes.check_sizes.Reads as check-sizes
-
-one-check : (a b : Check) → asCheck a ≡ asCheck b → a ≡ b
-one-check Fine Fine e = refl
-one-check Fine (Refuse r) e = let z : _≡_ {A = ℕ} 0 1 = cc in absurd (omega arith)
-one-check (Refuse r) Fine e = let z : _≡_ {A = ℕ} 0 1 = cc in absurd (omega arith)
-one-check (Refuse r) (Refuse s) e = ap Refuse (one-refusal r s e)
 
 -- ---- no two answers of a function fit its promise
 

@@ -1,14 +1,14 @@
 -- The refusals that speak of sizes, one by one. Assumes nothing.
-use mathlib.Core.Path.{_≡_, refl}
-use mathlib.Core.Bool.{Bool, true, false, not}
+use mathlib.Core.Path.{_≡_}
+use mathlib.Core.Bool.{not}
 use mathlib.Core.List.{List}
 use Prim.Native.Nat.{ℕ, _*_, _≤_, _<_}
-use native.Mathlib.Omega.{arith}
 use borrow.Author.Tests.{ne-eqb, eq-eqb, eqb-true, lt-ltb, le-ltb, ltb-false, not-false}
 use lib.Dec.{eqb, ltb}
 use lib.ListN.{length}
 use Rattle.model.specs.Refusals.{fine, refuse, badPlan, tooLarge, noRoom, _then_, refuseIf}
 use Rattle.model.specs.Writer.{Row, rowWords, imageLength}
+use Rattle.model.proofs.ParseLaw.{not-refused}
 use Rattle.lemmas.proofs.VerdictLaw.{passed}
 use Rattle.plan.specs.Kept.{sizesVerdict}
 
@@ -33,17 +33,13 @@ module _ (rs : List Row) (payload : List ℕ) (room : ℕ) where
 
 -- ---- what it says of a plan that nothing refuses it
 
-alone : (t : Bool) (n d : ℕ) → refuseIf t n d ≡ fine → t ≡ false
-alone true n d e = let z : _≡_ {A = ℕ} 0 1 = cc in absurd (omega arith)
-alone false n d e = refl
-
 module _ (rs : List Row) (payload : List ℕ) (room : ℕ) (e : sizesVerdict rs payload room ≡ fine) where
   taken-apart : (length payload ≡ 8 * rowWords rs) × (imageLength rs ≤ 8388608) × (imageLength rs ≤ room)
   unfolding sizesVerdict
   taken-apart =
       let a = passed (not (eqb (length payload) (8 * rowWords rs))) 14 (length rs) (refuseIf (ltb 8388608 (imageLength rs)) 11 0 then refuseIf (ltb room (imageLength rs)) 13 0) e in
       let b = passed (ltb 8388608 (imageLength rs)) 11 0 (refuseIf (ltb room (imageLength rs)) 13 0) (a .1) in
-      let c = alone (ltb room (imageLength rs)) 13 0 (b .1) in (
+      let c = not-refused (ltb room (imageLength rs)) 13 0 (b .1) in (
         eqb-true (length payload) (8 * rowWords rs) (not-false (eqb (length payload) (8 * rowWords rs)) (a .0)),
         ltb-false 8388608 (imageLength rs) (b .0),
         ltb-false room (imageLength rs) c,

@@ -29,14 +29,14 @@ fn tables(lines: &mut Vec<String>, bytes: &[u8]) {
         let numbers = table.map_or([0, 1, 0], |table| {
             [table.len() as u64, table.is_empty().into(), table.stride() as u64]
         });
-        lines.push(format!("held_table {text} {stride} -> {}", spaced(numbers)));
+        lines.push(format!("borrowed_table {text} {stride} -> {}", spaced(numbers)));
         let count = table.map_or(0, |table| table.len());
         let mut indices = vec![0, 1, count.saturating_sub(1), count, usize::MAX / 8, usize::MAX];
         indices.sort_unstable();
         indices.dedup();
         for index in indices {
             let record = part_answer(bytes, table.and_then(|table| table.get(index)));
-            lines.push(format!("held_record {text} {stride} {index} -> {record}"));
+            lines.push(format!("borrowed_record {text} {stride} {index} -> {record}"));
         }
     }
 }
@@ -58,7 +58,9 @@ fn ranges(lines: &mut Vec<String>, bytes: &[u8]) {
         {
             let forward = table.is_some_and(|table| table.range_is_forward(at, first, count));
             let (text, forward) = (text(bytes), u8::from(forward));
-            lines.push(format!("held_forward {text} {stride} {at} {first} {count} -> {forward}"));
+            lines.push(format!(
+                "borrowed_forward {text} {stride} {at} {first} {count} -> {forward}"
+            ));
         }
     }
 }
@@ -82,7 +84,7 @@ fn pools(lines: &mut Vec<String>, bytes: &[u8]) {
             (most, most),
         ] {
             let part = part_answer(bytes, pool.slice(offset, size));
-            lines.push(format!("held_pool {} {offset} {size} -> {own} {part}", text(bytes)));
+            lines.push(format!("borrowed_pool {} {offset} {size} -> {own} {part}", text(bytes)));
         }
     }
 }
@@ -97,7 +99,7 @@ fn planes(lines: &mut Vec<String>, random: &mut Random) {
             let word = plane.word(&data, index);
             let word = word.map_or("0 0 0".into(), |found| format!("1 {}", status(found)));
             let (parity, data) = (text(&parity), text(&data));
-            lines.push(format!("held_plane {parity} {data} {index} -> {own} {word} {report}"));
+            lines.push(format!("borrowed_plane {parity} {data} {index} -> {own} {word} {report}"));
         }
     }
 }

@@ -1,11 +1,11 @@
 //! Lookups and scans on bytes beside a count that is not theirs, which the Rust's view can't be asked:
-//! answers of our reading of docs/FORMAT.md (paper.rs).
+//! answers of our reading of docs/FORMAT.md (model.rs).
 
 use crate::answers::{entry_numbers, place_numbers, three_numbers};
 use crate::image::{image_text, spaced};
 use crate::images::{self, plane, protected};
 use crate::inputs::{Entry, Random};
-use crate::paper;
+use crate::model;
 
 /// An image of two planes, whole and cut inside either plane and before the header's end; one whose
 /// plane stands before its region, cut between the two.
@@ -31,18 +31,18 @@ pub fn lines() -> Vec<String> {
 fn asked(lines: &mut Vec<String>, bytes: &[u8], count: u16, regions: &[Entry]) {
     let pair = format!("{} {count}", image_text(bytes));
     for index in [count.saturating_sub(1), count] {
-        let found = spaced(entry_numbers(paper::region_at(bytes, count, index)));
+        let found = spaced(entry_numbers(model::region_at(bytes, count, index)));
         lines.push(format!("region_at {pair} {index} -> {found}"));
     }
-    let all = spaced(three_numbers(paper::verify_all(bytes, count)));
+    let all = spaced(three_numbers(model::verify_all(bytes, count)));
     lines.push(format!("verify_all {pair} -> {all}"));
     for e in regions {
         let Entry { kind, flags, word_offset, word_length, covers } = e;
-        let found = spaced(entry_numbers(paper::find_region(bytes, count, *kind)));
+        let found = spaced(entry_numbers(model::find_region(bytes, count, *kind)));
         lines.push(format!("find_region {pair} {kind} -> {found}"));
-        let place = spaced(place_numbers(paper::ecc_for(bytes, count, *kind)));
+        let place = spaced(place_numbers(model::ecc_for(bytes, count, *kind)));
         lines.push(format!("ecc_for {pair} {kind} -> {place}"));
-        let one = spaced(three_numbers(paper::verify_region(bytes, count, e)));
+        let one = spaced(three_numbers(model::verify_region(bytes, count, e)));
         lines.push(format!(
             "verify_region {pair} {kind} {flags} {word_offset} {word_length} {covers} -> {one}"
         ));

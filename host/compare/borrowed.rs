@@ -6,7 +6,7 @@ use crate::answers::{part_numbers, place_in, place_numbers};
 use crate::ecc::{damaged, decoded};
 use crate::inputs::{edges, edges32, hex};
 use crate::tables::{indices, strides};
-use crate::{ffi_held as ours, Run};
+use crate::{ffi_borrowed as ours, Run};
 use keleusma_wire::{EccPlane, EccReport, Pool, RecordTable};
 
 pub fn compare(run: &mut Run) {
@@ -24,7 +24,7 @@ fn compare_tables(run: &mut Run) {
         let lengths = (0..=80).chain([96, 160, 392, 400]).map(|len| &bytes[..len]);
         lengths.flat_map(|bytes| strides.iter().map(move |&stride| (bytes, stride)))
     };
-    run.tally.group("held_table", |group| {
+    run.tally.group("borrowed_table", |group| {
         for (bytes, stride) in tables() {
             let rusts = RecordTable::from_bytes(bytes, stride).map_or([0, 1, 0], |table| {
                 [table.len() as u64, table.is_empty().into(), table.stride() as u64]
@@ -33,7 +33,7 @@ fn compare_tables(run: &mut Run) {
             group.same(ours::table(bytes, stride), rusts, input);
         }
     });
-    run.tally.group("held_record", |group| {
+    run.tally.group("borrowed_record", |group| {
         for (bytes, stride) in tables() {
             let table = RecordTable::from_bytes(bytes, stride);
             let few = || vec![0, 1, usize::MAX];
@@ -58,7 +58,7 @@ fn compare_ranges(run: &mut Run) {
     let bytes = run.random.bytes(80);
     let small = || (0..=7).chain([u32::MAX / 2, u32::MAX - 1, u32::MAX]);
     let at = || (0..=7).chain([1 << 32, usize::MAX / 2, usize::MAX - 1, usize::MAX]);
-    run.tally.group("held_range_is_forward", |group| {
+    run.tally.group("borrowed_range_is_forward", |group| {
         for (len, stride) in (0..=80).flat_map(|len| [0, 8, 12, 16].map(|stride| (len, stride))) {
             let bytes = &bytes[..len];
             let table = RecordTable::from_bytes(bytes, stride);
@@ -78,7 +78,7 @@ fn compare_ranges(run: &mut Run) {
 fn compare_pools(run: &mut Run) {
     let bytes = run.random.bytes(40);
     let offsets = || (0..=42).chain(edges32(2));
-    run.tally.group("held_pool", |group| {
+    run.tally.group("borrowed_pool", |group| {
         for bytes in (0..=40).map(|len| &bytes[..len]) {
             for (offset, size) in offsets().flat_map(|o| offsets().map(move |s| (o, s))) {
                 let pool = Pool::from_bytes(bytes);
@@ -96,7 +96,7 @@ fn compare_pools(run: &mut Run) {
 /// Every length of the data up to five words, every length of the plane up to seven bytes.
 fn compare_planes(run: &mut Run) {
     let indices = || (0..=9).chain(edges(2).into_iter().map(|at| at as usize));
-    run.tally.group("held_plane", |group| {
+    run.tally.group("borrowed_plane", |group| {
         for (data_len, plane_len) in (0..=41).flat_map(|d| (0..=7).map(move |p| (d, p))) {
             for _ in 0..run.rounds {
                 let (data, parity) = damaged(&mut run.random, data_len, plane_len);
