@@ -39,7 +39,7 @@ fn put_plane(out: &mut [u8], at: usize, row: u64, b: &[u8]) -> usize
 {
     let words = words_of(row) as usize;
     let tail = put_checks(out, at, words, b);
-    put_zeros(out, tail, 8 * plane_words(row) - words)
+    put_zeros(out, tail, WORD * plane_words(row) - words)
 }
 
 // The check bytes of the first words of b.
