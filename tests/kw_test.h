@@ -68,15 +68,15 @@ void kwt_pool_bytes(const uint8_t *b, size_t len, uint32_t offset, uint32_t size
                     uint64_t answer[2]);
 
 /* Of the table that is made of the bytes: {its records, is empty, stride}; {0, 1, 0} if they are none */
-void kwt_held_table(const uint8_t *b, size_t len, size_t stride, uint64_t answer[3]);
+void kwt_borrowed_table(const uint8_t *b, size_t len, size_t stride, uint64_t answer[3]);
 /* its record: {1, start, end} or zeros, and {length, CRC-32} of the part */
-void kwt_held_record(const uint8_t *b, size_t len, size_t stride, size_t index, uint64_t answer[5]);
-uint32_t kwt_held_forward(const uint8_t *b, size_t len, size_t stride, size_t at, uint32_t first,
+void kwt_borrowed_record(const uint8_t *b, size_t len, size_t stride, size_t index, uint64_t answer[5]);
+uint32_t kwt_borrowed_forward(const uint8_t *b, size_t len, size_t stride, size_t at, uint32_t first,
                           uint32_t count);
 /* {length, CRC-32} of the pool's bytes, {1, start, end} or zeros of a slice, and its {length, CRC-32} */
-void kwt_held_pool(const uint8_t *b, size_t len, uint32_t offset, uint32_t size, uint64_t answer[7]);
+void kwt_borrowed_pool(const uint8_t *b, size_t len, uint32_t offset, uint32_t size, uint64_t answer[7]);
 /* {length, CRC-32} of the plane's bytes, the three numbers of a word, and those of a scan */
-void kwt_held_plane(const uint8_t *parity, size_t parity_len, const uint8_t *data, size_t data_len,
+void kwt_borrowed_plane(const uint8_t *parity, size_t parity_len, const uint8_t *data, size_t data_len,
                     size_t index, uint64_t answer[8]);
 
 /* {1, words, corrected, uncorrectable}, or zeros */

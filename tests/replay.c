@@ -114,14 +114,14 @@ CALL(records_bytes) {
 }
 CALL(record_bytes) { kwt_record_bytes(SLICE(0), in->n[0], in->n[1], out->n); }
 CALL(pool_bytes) { kwt_pool_bytes(SLICE(0), (uint32_t)in->n[0], (uint32_t)in->n[1], out->n); }
-CALL(held_table) { kwt_held_table(SLICE(0), in->n[0], out->n); }
-CALL(held_record) { kwt_held_record(SLICE(0), in->n[0], in->n[1], out->n); }
-CALL(held_forward) {
-    out->n[0] = kwt_held_forward(SLICE(0), in->n[0], in->n[1], (uint32_t)in->n[2],
+CALL(borrowed_table) { kwt_borrowed_table(SLICE(0), in->n[0], out->n); }
+CALL(borrowed_record) { kwt_borrowed_record(SLICE(0), in->n[0], in->n[1], out->n); }
+CALL(borrowed_forward) {
+    out->n[0] = kwt_borrowed_forward(SLICE(0), in->n[0], in->n[1], (uint32_t)in->n[2],
                                  (uint32_t)in->n[3]);
 }
-CALL(held_pool) { kwt_held_pool(SLICE(0), (uint32_t)in->n[0], (uint32_t)in->n[1], out->n); }
-CALL(held_plane) { kwt_held_plane(SLICE(0), SLICE(1), in->n[0], out->n); }
+CALL(borrowed_pool) { kwt_borrowed_pool(SLICE(0), (uint32_t)in->n[0], (uint32_t)in->n[1], out->n); }
+CALL(borrowed_plane) { kwt_borrowed_plane(SLICE(0), SLICE(1), in->n[0], out->n); }
 CALL(verify_region) {
     kwt_verify_region(SLICE(0), (uint16_t)in->n[0], (uint16_t)in->n[1], (uint16_t)in->n[2],
                       (uint32_t)in->n[3], (uint32_t)in->n[4], (uint16_t)in->n[5], out->n);
@@ -180,11 +180,11 @@ static const struct row rows[] = {
     {"records_bytes", "b448", 2, 0, call_records_bytes},
     {"record_bytes", "b88", 2, 0, call_record_bytes},
     {"pool_bytes", "b44", 2, 0, call_pool_bytes},
-    {"held_table", "b8", 3, 0, call_held_table},
-    {"held_record", "b88", 5, 0, call_held_record},
-    {"held_forward", "b8844", 1, 0, call_held_forward},
-    {"held_pool", "b44", 7, 0, call_held_pool},
-    {"held_plane", "bb8", 8, 0, call_held_plane},
+    {"borrowed_table", "b8", 3, 0, call_borrowed_table},
+    {"borrowed_record", "b88", 5, 0, call_borrowed_record},
+    {"borrowed_forward", "b8844", 1, 0, call_borrowed_forward},
+    {"borrowed_pool", "b44", 7, 0, call_borrowed_pool},
+    {"borrowed_plane", "bb8", 8, 0, call_borrowed_plane},
     {"verify_region", "b222442", 4, 0, call_verify_region},
     {"verify_all", "b2", 4, 0, call_verify_all},
     {"scrub", "w", 4, 0, call_scrub},

@@ -1,7 +1,7 @@
 //! The Rust's answers as the numbers that stand for them in C.
 
 use crate::inputs::Entry;
-use crate::paper;
+use crate::model;
 use keleusma_wire::{crc32, EccReport, Region, WireError, WireView};
 
 /// Document 01's number and detail.
@@ -39,7 +39,7 @@ pub fn parse_numbers(bytes: &[u8], parsed: &Result<WireView, WireError>) -> [u64
 /// Which copies disagreed. The view hides it, but the text that `Debug` makes of it tells, where it
 /// isn't too long.
 fn marks(bytes: &[u8], view: &WireView) -> [bool; 2] {
-    let read = paper::marks(bytes, view.region_count());
+    let read = model::marks(bytes, view.region_count());
     assert_eq!(view.needs_scrub(), read[0] || read[1]);
     if bytes.len() < 200 {
         let text = format!("{view:?}");

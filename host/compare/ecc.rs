@@ -37,24 +37,24 @@ fn compare_check_bytes(run: &mut Run) {
 
 /// Several words: none, every one and every two of their 72 bits flipped, and every check byte.
 fn compare_decoding(run: &mut Run) {
-    fn same(group: &mut Group, Pair(word, check): Pair) {
+    fn same(group: &mut Group, Codeword(word, check): Codeword) {
         let rusts = decoded(rust::decode_word(word, check));
         group.same(ffi::decode_word(word, check), rusts, || format!("{word:#x}, {check:#x}"));
     }
     let mut words = vec![0, 1, u64::MAX, 1 << 63, 0x0123_4567_89AB_CDEF];
     words.extend((0..2 * run.rounds).map(|_| run.random.next()));
     run.tally.group("decode_word_flips", |group| {
-        for pair in words.iter().map(|&word| Pair::sound(word)) {
-            same(group, pair);
+        for codeword in words.iter().map(|&word| Codeword::sound(word)) {
+            same(group, codeword);
             for a in 0..72 {
-                same(group, pair.flip(a));
-                (0..a).for_each(|b| same(group, pair.flip(a).flip(b)));
+                same(group, codeword.flip(a));
+                (0..a).for_each(|b| same(group, codeword.flip(a).flip(b)));
             }
         }
     });
     run.tally.group("decode_word_every_check", |group| {
         for &word in &words {
-            (0..=u8::MAX).for_each(|check| same(group, Pair(word, check)));
+            (0..=u8::MAX).for_each(|check| same(group, Codeword(word, check)));
         }
     });
 }
@@ -160,34 +160,34 @@ fn patterns(ones: usize) -> Vec<u64> {
 
 /// A word and its check byte: 72 bits, those of the check byte last.
 #[derive(Clone, Copy)]
-struct Pair(u64, u8);
+struct Codeword(u64, u8);
 
-impl Pair {
+impl Codeword {
     fn sound(word: u64) -> Self {
-        Pair(word, rust::check_byte(word))
+        Codeword(word, rust::check_byte(word))
     }
 
     fn flip(self, bit: u32) -> Self {
         if bit < 64 {
-            Pair(self.0 ^ 1 << bit, self.1)
+            Codeword(self.0 ^ 1 << bit, self.1)
         } else {
-            Pair(self.0, self.1 ^ 1 << (bit - 64))
+            Codeword(self.0, self.1 ^ 1 << (bit - 64))
         }
     }
 }
 
-/// Data and a plane of these lengths, of which each pair has no to three flipped bits, most have none
+/// Data and a plane of these lengths, of which each codeword has no to three flipped bits, most have none
 /// or one; what has no counterpart is random.
 pub fn damaged(random: &mut Random, data_len: usize, plane_len: usize) -> (Vec<u8>, Vec<u8>) {
     let (mut data, mut plane) = (random.bytes(data_len), random.bytes(plane_len));
     for (word, check) in data.chunks_exact_mut(8).zip(&mut plane) {
-        let mut pair = Pair::sound(random.next());
+        let mut codeword = Codeword::sound(random.next());
         let flips = [0, 0, 0, 1, 1, 1, 2, 3][random.next() as usize % 8];
         for _ in 0..flips {
-            pair = pair.flip(random.next() as u32 % 72);
+            codeword = codeword.flip(random.next() as u32 % 72);
         }
-        word.copy_from_slice(&pair.0.to_le_bytes());
-        *check = pair.1;
+        word.copy_from_slice(&codeword.0.to_le_bytes());
+        *check = codeword.1;
     }
     (data, plane)
 }

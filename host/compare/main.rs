@@ -6,19 +6,19 @@
 //! with a function `compare`. Exit status 1 if an answer differs or nothing was compared.
 
 mod answers;
+mod borrowed;
 mod crc;
 mod ecc;
 mod ffi;
 mod ffi_api;
-mod ffi_held;
+mod ffi_borrowed;
 mod ffi_reader;
-mod held;
 mod images;
 mod inputs;
 mod layout;
 mod mend;
 mod mending;
-mod paper;
+mod model;
 mod plan;
 mod region;
 mod scalar;
@@ -53,7 +53,7 @@ fn main() -> ExitCode {
     ecc::compare(&mut run);
     view::compare(&mut run);
     tables::compare(&mut run);
-    held::compare(&mut run);
+    borrowed::compare(&mut run);
     scan::compare(&mut run);
     scrub::compare(&mut run);
     mend::compare(&mut run);

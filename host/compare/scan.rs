@@ -5,7 +5,7 @@ use crate::images::{self, plane, protected, FAMILIES};
 use crate::inputs::{hex, image, Entry, Random, RegionMaker};
 use crate::tally::Group;
 use crate::view::other_bytes;
-use crate::{ffi_api as api, ffi_reader as ours, paper, region, Run};
+use crate::{ffi_api as api, ffi_reader as ours, model, region, Run};
 use keleusma_wire::WireView;
 
 pub fn compare(run: &mut Run) {
@@ -61,12 +61,12 @@ fn compare_other_bytes(run: &mut Run) {
         for bytes in all {
             for count in [0, 1, 2, 3, 5, 9, 1024, u16::MAX] {
                 let input = || format!("count {count}, {}", hex(&bytes[..bytes.len().min(2000)]));
-                let read = three_numbers(paper::verify_all(&bytes, count));
+                let read = three_numbers(model::verify_all(&bytes, count));
                 group.same(ours::verify_all(&bytes, count), read, || format!("all, {}", input()));
                 for index in 0..count.min(4) {
-                    let e = paper::region_at(&bytes, count, index);
+                    let e = model::region_at(&bytes, count, index);
                     let e = e.unwrap_or_else(|| Entry::any(&mut run.random));
-                    let read = three_numbers(paper::verify_region(&bytes, count, &e));
+                    let read = three_numbers(model::verify_region(&bytes, count, &e));
                     group.same(ours::verify_region(&bytes, count, e), read, || {
                         format!("{e:?}, {}", input())
                     });
@@ -78,7 +78,7 @@ fn compare_other_bytes(run: &mut Run) {
         entries[65533] = plane(2, 1, 0, 1);
         entries[65534] = protected(1, 1, 3);
         let bytes = image(&entries, 0);
-        let read = three_numbers(paper::verify_all(&bytes, u16::MAX));
+        let read = three_numbers(model::verify_all(&bytes, u16::MAX));
         group.same(ours::verify_all(&bytes, u16::MAX), read, || "65535 regions".into());
     });
 }

@@ -4,7 +4,7 @@ use crate::answers::{api_numbers, entry, entry_numbers, parse_numbers, place_in,
 use crate::images::{self, FAMILIES};
 use crate::inputs::{hex, Entry, RegionMaker};
 use crate::tally::Group;
-use crate::{ffi_api as api, ffi_reader as ours, paper, region, Run};
+use crate::{ffi_api as api, ffi_reader as ours, model, region, Run};
 use keleusma_wire::WireView;
 
 pub fn compare(run: &mut Run) {
@@ -116,18 +116,18 @@ fn same_lookups(group: &mut Group, bytes: &[u8], count: u16) {
     let input = || format!("count {count}, {}", hex(&bytes[..bytes.len().min(2000)]));
     let mut entries = Vec::new();
     for index in indices(count) {
-        let read = paper::region_at(bytes, count, index);
+        let read = model::region_at(bytes, count, index);
         entries.extend(read);
         group.same(ours::region_at(bytes, count, index), entry_numbers(read), || {
             format!("region_at {index}, {}", input())
         });
     }
     for kind in kinds(&entries) {
-        let read = paper::find_region(bytes, count, kind);
+        let read = model::find_region(bytes, count, kind);
         group.same(ours::find_region(bytes, count, kind), entry_numbers(read), || {
             format!("find_region {kind}, {}", input())
         });
-        let read = paper::ecc_for(bytes, count, kind);
+        let read = model::ecc_for(bytes, count, kind);
         group.same(ours::ecc_for(bytes, count, kind), place_numbers(read), || {
             format!("ecc_for {kind}, {}", input())
         });

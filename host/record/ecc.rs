@@ -29,16 +29,16 @@ fn check_bytes(lines: &mut Vec<String>, random: &mut Random) {
 
 /// Of a random word: no flip, every one flip, some two and three, every check byte; the figures.
 fn decoded_words(lines: &mut Vec<String>, random: &mut Random) {
-    let mut pairs = vec![(1, 7), (0, 7), (0, 1), (0, 3), (0, 91), (0, 127)];
+    let mut codewords = vec![(1, 7), (0, 7), (0, 1), (0, 3), (0, 91), (0, 127)];
     let word = random.next();
     let check = check_byte(word);
     let mut bit = || random.next() as u32 % 72;
-    pairs.push((word, check));
-    pairs.extend((0..72).map(|a| flipped(word, check, &[a])));
-    pairs.extend((0..64).map(|_| flipped(word, check, &[bit(), bit()])));
-    pairs.extend((0..64).map(|_| flipped(word, check, &[bit(), bit(), bit()])));
-    pairs.extend((0..=u8::MAX).map(|check| (word, check)));
-    for (word, check) in pairs {
+    codewords.push((word, check));
+    codewords.extend((0..72).map(|a| flipped(word, check, &[a])));
+    codewords.extend((0..64).map(|_| flipped(word, check, &[bit(), bit()])));
+    codewords.extend((0..64).map(|_| flipped(word, check, &[bit(), bit(), bit()])));
+    codewords.extend((0..=u8::MAX).map(|check| (word, check)));
+    for (word, check) in codewords {
         lines.push(format!("decode_word {word} {check} -> {}", status(decode_word(word, check))));
     }
 }

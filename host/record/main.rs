@@ -3,7 +3,7 @@
 //! usage: record FOLDER
 //!
 //! It calls the oracle alone, and for what the oracle has not, our readings of docs/FORMAT.md: for mend,
-//! for the writer, and for bytes beside a count that is not theirs (pairs). The folder `programs` in it
+//! for the writer, and for bytes beside a count that is not theirs (other_count). The folder `programs` in it
 //! has what the programs, and host/example, are run on: NAME.kw, what report prints of it, what scrub
 //! writes, and its line. Otherwise one file for each of our crates, one case a line: function,
 //! arguments, `->`, answer. Numbers are decimal and bytes are hex; `-` stands for no bytes, `00*600` for
@@ -15,9 +15,9 @@
 
 #[path = "../compare/answers.rs"]
 mod answers;
+mod borrowed;
 mod crc;
 mod ecc;
-mod held;
 mod image;
 #[path = "../compare/images.rs"]
 #[allow(dead_code)] // the comparison uses the rest
@@ -29,10 +29,10 @@ mod layout;
 mod mend;
 #[path = "../compare/mending.rs"]
 mod mending;
-mod pairs;
-#[path = "../compare/paper.rs"]
+#[path = "../compare/model.rs"]
 #[allow(dead_code)]
-mod paper;
+mod model;
+mod other_count;
 #[path = "../compare/plan.rs"]
 mod plan;
 mod programs;
@@ -53,11 +53,11 @@ fn main() {
     write(&folder, "ecc", ecc::lines());
     write(&folder, "view", view::lines());
     write(&folder, "tables", tables::lines());
-    write_under(HELD, &folder, "held", held::lines());
+    write_under(BORROWED, &folder, "borrowed", borrowed::lines());
     write(&folder, "scan", scan::lines());
     write(&folder, "scrub", scrub::lines());
     write_under(MENDED, &folder, "mend", mend::lines());
-    write_under(PAIRED, &folder, "pairs", pairs::lines());
+    write_under(OTHER_COUNT, &folder, "other_count", other_count::lines());
     write_under(WRITTEN, &folder, "writer", writer::lines());
     let programs = Path::new(&folder).join("programs");
     fs::create_dir_all(&programs).expect("the folder is made");
@@ -77,11 +77,11 @@ const MADE: &str =
     "# Answers of the unchanged Rust, made by 'make record' (host/record), not by hand.";
 const MENDED: &str = "# The Rust has no mend: answers of our own reading of docs/FORMAT.md, which asks \
     the Rust for parse and\n# decoding (host/compare/mending.rs), made by 'make record', not by hand.";
-const HELD: &str =
+const BORROWED: &str =
     "# Answers of the unchanged Rust, made by 'make record' (host/record), not by hand. \
     Of bytes that it\n# makes no table of: no records, empty, stride 0 (docs/DIFFERENCES.md).";
-const PAIRED: &str = "# Bytes beside a count that is not theirs, which the Rust can't be asked: answers of \
-    our own reading of\n# docs/FORMAT.md, which asks the Rust for decoding (host/compare/paper.rs), made by \
+const OTHER_COUNT: &str = "# Bytes beside a count that is not theirs, which the Rust can't be asked: answers of \
+    our own reading of\n# docs/FORMAT.md, which asks the Rust for decoding (host/compare/model.rs), made by \
     'make record', not by\n# hand.";
 const WRITTEN: &str = "# The Rust has no such writer: answers of our own reading of docs/FORMAT.md, which \
     asks the Rust for\n# checksums and check bytes (host/compare/plan.rs), made by 'make record', not by hand.";

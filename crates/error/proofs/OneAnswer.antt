@@ -1,13 +1,16 @@
 -- No two refusals have the same number and detail: they are read back from the two. No two answers fit one promise. Assumes nothing.
-use mathlib.Core.Path.{_≡_, refl, sym, ap₂, _∙_}
+use mathlib.Core.Path.{_≡_, refl, sym, ap, ap₂, _∙_}
 use mathlib.Core.List.{List, [], _∷_}
 use Prim.Native.Nat.{ℕ}
+use native.Mathlib.Omega.{arith}
 use lib.ListN.{getD}
 use Rattle.model.specs.Refusals.{Verdict, refuse}
 use Rattle.model.proofs.OneAnswer.{OneAnswer, agree}
 use Rattle.error.specs.declared.Refusal.{Refusal}
 use Rattle.error.specs.declared.Refusal.the-variants.{Truncated, BadMagic, ForeignEndian, UnsupportedVersion, BadPrologueChecksum, TooManyRegions, RegionOutOfBounds, DuplicateRegion, BadRecordStride, Overflow, TooLarge, OverlappingRegions, NoRoom, BadPlan}
-use Rattle.error.specs.Refused.{numberOf, detailOf, asVerdict}
+use Rattle.error.specs.declared.Check.{Check}
+use Rattle.error.specs.declared.Check.the-variants as check
+use Rattle.error.specs.Refused.{numberOf, detailOf, asVerdict, asCheck}
 use Rattle.error.proofs.Refusal.number.Reads as number
 use Rattle.error.proofs.Refusal.detail.Reads as detail
 
@@ -40,6 +43,12 @@ one-refusal a b e =
     let n : numberOf a ≡ numberOf b = cc in
     let d : detailOf a ≡ detailOf b = cc in
     sym (decoded a) ∙ ap₂ decode n d ∙ decoded b
+
+pub one-check : (a b : Check) → asCheck a ≡ asCheck b → a ≡ b
+one-check check.Fine check.Fine e = refl
+one-check check.Fine (check.Refuse r) e = let z : _≡_ {A = ℕ} 0 1 = cc in absurd (omega arith)
+one-check (check.Refuse r) check.Fine e = let z : _≡_ {A = ℕ} 0 1 = cc in absurd (omega arith)
+one-check (check.Refuse r) (check.Refuse s) e = ap check.Refuse (one-refusal r s e)
 
 -- ---- no two answers of a function fit its promise
 

@@ -9,16 +9,17 @@ ghost use Rattle.model.specs.Scrub.{scrub};
 ghost use Rattle.model.specs.Mend.{mend};
 ghost use Rattle.model.specs.Writer as model;
 ghost use lib.ListN.{length};
-ghost use Rattle.writer.specs.Answers.{asPlan, asWritten, bytesAfter};
+ghost use Rattle.plan.specs.Rows.{asPlan};
+ghost use Rattle.writer.specs.Answers.{asWritten, bytesAfter};
 ghost use Rattle.mending.specs.Answers.{leftBy};
 ghost use Rattle.scan.specs.Answers.{asScan};
 ghost use Rattle.kw.specs.Writes.{numberIn, answerIn, writeNumber, writeAnswer};
 ghost use Rattle.kw.specs.Numbers.{refusalNumber, parseNumbers, scanNumbers, reportNumbers, mendingNumbers, mendNumber, mendNumbers};
 use mending::MendResult;
 use mending::Mending;
+use plan::Row;
 use scan::ScanResult;
 use view::ParseResult;
-use writer::Row;
 use writer::WriteResult;
 
 // {1, words, corrected, uncorrectable}, or zeros for nothing.

@@ -12,7 +12,7 @@ use Rattle.model.specs.Scan.{Report, sliceWord, sliceScan}
 use Rattle.model.specs.Views.{Range, partIn, recordCount, recordRange, rangeIsForward, poolRange}
 use Rattle.kw_test.specs.Numbers.{wordNumbers}
 use Rattle.kw_test.specs.Reader.{placeNumbers, partNumbers}
-use Rattle.kw_test.specs.Held.{tableOf, strideOf, tableNumbers, partAnswer, planeAnswer}
+use Rattle.kw_test.specs.Borrowed.{tableOf, strideOf, tableNumbers, partAnswer, planeAnswer}
 
 -- the first numbers of a list, before others
 abbrev two : List ℕ → List ℕ → List ℕ

@@ -39,11 +39,11 @@ use Rattle.kw_test.proofs.reader.kwt_ecc_for.Reads as kwt-ecc-for
 use Rattle.kw_test.proofs.scans.kwt_verify_region.Reads as kwt-verify-region
 use Rattle.kw_test.proofs.scans.kwt_verify_all.Reads as kwt-verify-all
 use Rattle.kw_test.proofs.scans.kwt_scrub.Reads as kwt-scrub
-use Rattle.kw_test.proofs.values.kwt_held_table.Reads as kwt-held-table
-use Rattle.kw_test.proofs.values.kwt_held_record.Reads as kwt-held-record
-use Rattle.kw_test.proofs.values.kwt_held_forward.Reads as kwt-held-forward
-use Rattle.kw_test.proofs.values.kwt_held_pool.Reads as kwt-held-pool
-use Rattle.kw_test.proofs.values.kwt_held_plane.Reads as kwt-held-plane
+use Rattle.kw_test.proofs.values.kwt_borrowed_table.Reads as kwt-borrowed-table
+use Rattle.kw_test.proofs.values.kwt_borrowed_record.Reads as kwt-borrowed-record
+use Rattle.kw_test.proofs.values.kwt_borrowed_forward.Reads as kwt-borrowed-forward
+use Rattle.kw_test.proofs.values.kwt_borrowed_pool.Reads as kwt-borrowed-pool
+use Rattle.kw_test.proofs.values.kwt_borrowed_plane.Reads as kwt-borrowed-plane
 
 pub one-answer-kwt-u8-at : OneAnswerAnd kwt-u8-at.Learnt (λ κs s. now (s .1 .1 .0))
 one-answer-kwt-u8-at κs a r r′ s s′ p q = (refl, agree p q)
@@ -156,17 +156,17 @@ one-answer-kwt-verify-all κs a r r′ s s′ p q = (refl, agree p q)
 pub one-answer-kwt-scrub : OneAnswerAndBoth kwt-scrub.Learnt (λ κs s. now (s .0)) (λ κs s. now (s .1 .0))
 one-answer-kwt-scrub κs a r r′ s s′ p q = (refl, (agree (p .1) (q .1), agree (p .0) (q .0)))
 
-pub one-answer-kwt-held-table : OneAnswerAnd kwt-held-table.Learnt (λ κs s. now (s .1 .1 .0))
-one-answer-kwt-held-table κs a r r′ s s′ p q = (refl, agree p q)
+pub one-answer-kwt-borrowed-table : OneAnswerAnd kwt-borrowed-table.Learnt (λ κs s. now (s .1 .1 .0))
+one-answer-kwt-borrowed-table κs a r r′ s s′ p q = (refl, agree p q)
 
-pub one-answer-kwt-held-record : OneAnswerAnd kwt-held-record.Learnt (λ κs s. now (s .1 .1 .1 .0))
-one-answer-kwt-held-record κs a r r′ s s′ p q = (refl, agree p q)
+pub one-answer-kwt-borrowed-record : OneAnswerAnd kwt-borrowed-record.Learnt (λ κs s. now (s .1 .1 .1 .0))
+one-answer-kwt-borrowed-record κs a r r′ s s′ p q = (refl, agree p q)
 
-pub one-answer-kwt-held-forward : OneAnswer kwt-held-forward.Learnt
-one-answer-kwt-held-forward κs a r r′ s s′ p q = agree p q
+pub one-answer-kwt-borrowed-forward : OneAnswer kwt-borrowed-forward.Learnt
+one-answer-kwt-borrowed-forward κs a r r′ s s′ p q = agree p q
 
-pub one-answer-kwt-held-pool : OneAnswerAnd kwt-held-pool.Learnt (λ κs s. now (s .1 .1 .1 .0))
-one-answer-kwt-held-pool κs a r r′ s s′ p q = (refl, agree p q)
+pub one-answer-kwt-borrowed-pool : OneAnswerAnd kwt-borrowed-pool.Learnt (λ κs s. now (s .1 .1 .1 .0))
+one-answer-kwt-borrowed-pool κs a r r′ s s′ p q = (refl, agree p q)
 
-pub one-answer-kwt-held-plane : OneAnswerAnd kwt-held-plane.Learnt (λ κs s. now (s .1 .1 .1 .0))
-one-answer-kwt-held-plane κs a r r′ s s′ p q = (refl, agree p q)
+pub one-answer-kwt-borrowed-plane : OneAnswerAnd kwt-borrowed-plane.Learnt (λ κs s. now (s .1 .1 .1 .0))
+one-answer-kwt-borrowed-plane κs a r r′ s s′ p q = (refl, agree p q)

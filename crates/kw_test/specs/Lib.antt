@@ -1,3 +1,3 @@
-pub mod Held
+pub mod Borrowed
 pub mod Numbers
 pub mod Reader

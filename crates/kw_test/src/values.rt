@@ -9,7 +9,7 @@ ghost use Rattle.model.specs.Views.{partIn, recordCount, recordRange, rangeIsFo
 ghost use Rattle.tables.specs.Answers.{asPlace};
 ghost use Rattle.ecc.specs.Answers.{asWord, asReport};
 ghost use Rattle.kw_test.specs.Reader.{partNumbers};
-ghost use Rattle.kw_test.specs.Held.{tableOf, strideOf, tableNumbers, partAnswer, planeAnswer};
+ghost use Rattle.kw_test.specs.Borrowed.{tableOf, strideOf, tableNumbers, partAnswer, planeAnswer};
 use super::parts::part_numbers;
 use super::reader::place_numbers;
 use super::word_numbers;
@@ -101,7 +101,7 @@ fn plane_facts(parity: &[u8], data: &[u8], index: usize) -> [u64; 8]
 
 // {len, is_empty, stride}; of bytes that are no table of that stride, of the table without bytes.
 #[no_mangle]
-pub extern "C" fn kwt_held_table(bytes: &[u8], stride: usize, answer: &mut [u64; 3])
+pub extern "C" fn kwt_borrowed_table(bytes: &[u8], stride: usize, answer: &mut [u64; 3])
     ensures { λ _. ⌜ now (answer .exit) ≡ tableNumbers (tableOf (now (bytes .entry)) stride) (strideOf (now (bytes .entry)) stride) ⌝ }
 {
     *answer = table_size(bytes, stride);
@@ -109,7 +109,12 @@ pub extern "C" fn kwt_held_table(bytes: &[u8], stride: usize, answer: &mut [u64;
 
 // {1, start, end} of a record, or zeros for nothing; {length, CRC-32} of it.
 #[no_mangle]
-pub extern "C" fn kwt_held_record(bytes: &[u8], stride: usize, index: usize, answer: &mut [u64; 5])
+pub extern "C" fn kwt_borrowed_record(
+    bytes: &[u8],
+    stride: usize,
+    index: usize,
+    answer: &mut [u64; 5],
+)
     ensures { λ _. ⌜ now (answer .exit) ≡ partAnswer (recordRange (length (tableOf (now (bytes .entry)) stride)) (strideOf (now (bytes .entry)) stride) index)
         (partIn (tableOf (now (bytes .entry)) stride) (recordRange (length (tableOf (now (bytes .entry)) stride)) (strideOf (now (bytes .entry)) stride) index)) ⌝ }
 {
@@ -117,7 +122,7 @@ pub extern "C" fn kwt_held_record(bytes: &[u8], stride: usize, index: usize, ans
 }
 
 #[no_mangle]
-pub extern "C" fn kwt_held_forward(
+pub extern "C" fn kwt_borrowed_forward(
     bytes: &[u8],
     stride: usize,
     at: usize,
@@ -131,7 +136,7 @@ pub extern "C" fn kwt_held_forward(
 
 // {length, CRC-32} of the pool; {1, start, end} of a part, or zeros for nothing; {length, CRC-32} of it.
 #[no_mangle]
-pub extern "C" fn kwt_held_pool(bytes: &[u8], offset: u32, len: u32, answer: &mut [u64; 7])
+pub extern "C" fn kwt_borrowed_pool(bytes: &[u8], offset: u32, len: u32, answer: &mut [u64; 7])
     ensures { λ _. ⌜ now (answer .exit) ≡ partNumbers (now (bytes .entry)) ++ partAnswer (poolRange (length (now (bytes .entry))) offset len) (partIn (now (bytes .entry)) (poolRange (length (now (bytes .entry))) offset len)) ⌝ }
 {
     *answer = pool_part(bytes, offset, len);
@@ -139,7 +144,12 @@ pub extern "C" fn kwt_held_pool(bytes: &[u8], offset: u32, len: u32, answer: &mu
 
 // {length, CRC-32} of the plane; {1, how, word} or zeros of a word; {words, corrected, uncorrectable}.
 #[no_mangle]
-pub extern "C" fn kwt_held_plane(parity: &[u8], data: &[u8], index: usize, answer: &mut [u64; 8])
+pub extern "C" fn kwt_borrowed_plane(
+    parity: &[u8],
+    data: &[u8],
+    index: usize,
+    answer: &mut [u64; 8],
+)
     ensures { λ _. ⌜ now (answer .exit) ≡ planeAnswer (now (parity .entry)) (sliceWord (now («data» .entry)) (now (parity .entry)) index) (sliceScan (now («data» .entry)) (now (parity .entry))) ⌝ }
 {
     *answer = plane_facts(parity, data, index);

@@ -131,7 +131,7 @@ none-corrected w c e f = go (decode w c) refl e f
         let y : _≡_ {A = ℕ} 1 0 = ap isCorrected z in absurd (omega arith)
     go uncorrectable d a b = refl
 
--- and repair loses no word and finds none again
+-- a repaired word is uncorrectable exactly if it was before
 pub uncorrectable-again : (w c : ℕ) → isUncorrectable (decode (fixedWord w c) (fixedCheck w c)) ≡ isUncorrectable (decode w c)
 unfolding fixedWord fixedCheck
 uncorrectable-again w c = go (decode w c) refl

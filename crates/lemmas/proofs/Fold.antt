@@ -90,7 +90,7 @@ pub record Inside (len : ℕ) (p : Codeword) : Type 0 where
   pub check : p .check < len
   pub self : p .check / 8 ≡ p .word → ⊥
 
--- neither lies in the other, pair p and the pair (q, c)
+-- codeword p and the one of word q and check byte c: neither lies in the other
 pub record Free (p : Codeword) (q c : ℕ) : Type 0 where
   pub words : p .word ≡ q → ⊥
   pub checks : p .check ≡ c → ⊥
@@ -178,7 +178,7 @@ module _ (p : Codeword) (x : List ℕ) (b : Bytes x) (s : Inside (length x) p) w
   pub fix-other : (i : ℕ) → (i / 8 ≡ p .word → ⊥) → (i ≡ p .check → ⊥) → at (fixAt p x) i ≡ at x i
   fix-other = fix .other
 
-  -- a pair that is free of p keeps its word and its check byte
+  -- a codeword that is free of p keeps its word and its check byte
   pub fix-free : (q c : ℕ) → Free p q c → (wordAt (fixAt p x) q ≡ wordAt x q) × (at (fixAt p x) c ≡ at x c)
   fix-free q c f = (
     read-ext 8 (fixAt p x) x (8 * q) (8 * q) (λ j l.

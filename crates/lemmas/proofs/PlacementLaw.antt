@@ -15,7 +15,8 @@ use Rattle.model.specs.Layout.{Entry, count, directory, headerLength, start}
 use Rattle.model.specs.Views.{nth}
 use Rattle.model.specs.Parse.{Header, parsedAs, headerOf, parse, parseVerdict}
 use Rattle.model.specs.Mend.{InRegion, meets, meetsAny, meetsFrom, inHeader, apartVerdict, mendVerdict, Placement, placedApart, overHeader, overRegion, refusedPlacement, placementAs, placementFrom, placementOf, placement, placementVerdict}
-use Rattle.model.specs.Placement.{isSome, OnHeader, OnRegion, TrueOf}
+use Rattle.model.specs.Placement.{OnHeader, OnRegion, TrueOf}
+use Rattle.lemmas.specs.Steps.{isSome}
 use Rattle.lemmas.proofs.VerdictLaw.{true-false}
 use Rattle.lemmas.proofs.MisplacedLaw.{both, shared-byte, meets-byte, one-entry, accepts-apart, names-first}
 

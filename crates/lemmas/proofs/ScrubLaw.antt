@@ -45,7 +45,7 @@ kept p x (flipped k) b s =
     }
 kept p x uncorrectable b s = record { size = refl; bytes = b; word = refl; other = λ i n. refl }
 
--- a pair that is free of p keeps its word and its check byte
+-- a codeword that is free of p keeps its word and its check byte
 kept-free : {p : Codeword} {x : List ℕ} {r : Class} {y : List ℕ} → Kept p x r y → (q c : ℕ) → Free p q c → (wordAt y q ≡ wordAt x q) × (at y c ≡ at x c)
 kept-free {x = x} {y = y} k q c f =
     (read-ext 8 y x (8 * q) (8 * q) (λ j l. k .other (8 * q + j) (λ e. f .words (sym e ∙ omega arith))), k .other c (f .there-here))

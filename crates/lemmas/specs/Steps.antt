@@ -1,5 +1,7 @@
 -- Steps of code, for private contracts; nothing that a reader must believe. Scrub, mend and the writer; each comes to the model's definition (proofs/ScrubLaw, HeaderHalf, PutLaw). (FORMAT 8 to 10)
+use mathlib.Core.Bool.{Bool, true, false}
 use mathlib.Core.List.{List, [], _∷_, _++_}
+use mathlib.Core.Option.{Option, none, some}
 use Prim.Native.Nat.{ℕ, zero, suc, _+_, _*_}
 use lib.ListN.{length, drop, set}
 use Rattle.model.specs.Bytes.{at}
@@ -41,3 +43,10 @@ scrubAll (p ∷ ps) x = scrubAll ps (storedWord (classAt x p) p x)
 
 abbrev pub over : List ℕ → List ℕ → List ℕ
 over done out = done ++ drop (length done) out
+
+-- ---- a search over entries
+
+-- one was found
+abbrev pub isSome : Option ℕ → Bool
+isSome none = false
+isSome (some j) = true

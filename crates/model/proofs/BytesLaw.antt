@@ -141,21 +141,15 @@ pub places-2 : (x : List ℕ) (p : ℕ) → read 2 x p ≡ at x p + at x (p + 1)
 unfolding read
 places-2 x p = simp (towards-suc, add-zero) (omega arith)
 
-pub places-4 : (x : List ℕ) (p : ℕ) → read 4 x p ≡ at x p + at x (p + 1) * 256 + at x (p + 2) * 65536 + at x (p + 3) * 16777216
-unfolding read
-places-4 x p = simp (towards-suc, add-zero) (omega arith)
-
 -- four bytes by two and two
 pub read-halves : (x : List ℕ) (p : ℕ) → read 4 x p ≡ read 2 x p + 65536 * read 2 x (p + 2)
 unfolding read
 read-halves x p = simp (towards-suc, add-zero) (omega arith)
 
-pub places-8 : (x : List ℕ) (p : ℕ)
-    → read 8 x p
-    ≡ at x p + at x (p + 1) * 256 + at x (p + 2) * 65536 + at x (p + 3) * 16777216
-    + at x (p + 4) * 4294967296 + at x (p + 5) * 1099511627776 + at x (p + 6) * 281474976710656 + at x (p + 7) * 72057594037927936
+-- eight bytes by four and four
+pub read-halves-8 : (x : List ℕ) (p : ℕ) → read 8 x p ≡ read 4 x p + 4294967296 * read 4 x (p + 4)
 unfolding read
-places-8 x p = simp (towards-suc, add-zero) (omega arith)
+read-halves-8 x p = simp (towards-suc, add-zero) (omega arith)
 
 -- ---- a read that may be past the end
 

@@ -28,11 +28,11 @@ same a v e = eqb-true a v (not-false (eqb a v) e)
 other : (a v : ℕ) → not (eqb a v) ≡ true → a ≡ v → ⊥
 other a v e = eqb-false a v (not-true (eqb a v) e)
 
-or-left : (a b : Bool) → a || b ≡ false → a ≡ false
+pub or-left : (a b : Bool) → a || b ≡ false → a ≡ false
 or-left true b e = e
 or-left false b e = refl
 
-or-right : (a b : Bool) → a || b ≡ false → b ≡ false
+pub or-right : (a b : Bool) → a || b ≡ false → b ≡ false
 or-right true b e = cc
 or-right false b e = e
 

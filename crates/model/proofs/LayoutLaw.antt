@@ -1,6 +1,6 @@
 -- Laws of the voted header and of the directory's entries. Assumes nothing.
 use mathlib.Core.Path.{_≡_, refl, sym, ap, ap₂, _∙_, subst}
-use mathlib.Core.Bool.{Bool, true, false, not, _||_}
+use mathlib.Core.Bool.{Bool, true, false, not, _||_, or-true}
 use mathlib.Core.List.{List, [], _∷_, _++_}
 use Prim.Native.Nat.{ℕ, zero, suc, _+_, _-_, _*_, _^_, _≤_, _<_, zero-le, suc-le-suc}
 use native.Mathlib.Nat.{add-zero, le-of-suc-le-suc, not-suc-le-zero}
@@ -128,11 +128,8 @@ unfolding differs
 differs-at [] x p h f l = absurd (not-suc-le-zero h)
 differs-at (a ∷ v) [] p h f l = refl
 differs-at (a ∷ v) (b ∷ x) zero h f l = rw (ne-eqb a b f)
-differs-at (a ∷ v) (b ∷ x) (suc p) h f l = or-true (not (eqb a b)) (differs-at v x p (le-of-suc-le-suc h) f (le-of-suc-le-suc l))
-  where
-    or-true : (s : Bool) {t : Bool} → t ≡ true → s || t ≡ true
-    or-true true e = refl
-    or-true false e = e
+differs-at (a ∷ v) (b ∷ x) (suc p) h f l =
+    ap (λ (t : Bool). not (eqb a b) || t) (differs-at v x p (le-of-suc-le-suc h) f (le-of-suc-le-suc l)) ∙ or-true (not (eqb a b))
 
 pub differs-not : (v x : List ℕ) → length v ≤ length x → ((p : ℕ) → p < length v → at v p ≡ at x p) → differs v x ≡ false
 unfolding differs

@@ -1,19 +1,13 @@
 -- What a placement says of an image, in the words of the rule. (FORMAT 10)
 use mathlib.Core.Path.{_≡_}
-use mathlib.Core.Bool.{Bool, true, false}
 use mathlib.Core.List.{List}
-use mathlib.Core.Option.{Option, none, some}
+use mathlib.Core.Option.{some}
 use Prim.Native.Nat.{ℕ, _≤_, _<_}
 use Rattle.model.specs.Refusals.{fine}
 use Rattle.model.specs.Layout.{count, headerLength, directory, Entry, start}
 use Rattle.model.specs.Views.{nth}
 use Rattle.model.specs.Parse.{accepted, refused, parse, parseVerdict}
 use Rattle.model.specs.Mend.{InRegion, LaidApart, FirstMisplaced, Placement, placedApart, overHeader, overRegion, refusedPlacement}
-
--- some entry was found
-abbrev pub isSome : Option ℕ → Bool
-isSome none = false
-isSome (some j) = true
 
 -- ---- of a directory es of n entries
 

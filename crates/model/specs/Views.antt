@@ -52,11 +52,12 @@ abbrev pub partIn : List ℕ → Option Range → List ℕ
 partIn x none = []
 partIn x (some r) = part x (r .first) (r .past)
 
--- where the plane of a kind stands: the first plane that covers it, if its bytes are all there
+-- where an entry stands, if there is one and its bytes are all there
 abbrev pub placeWithin : ℕ → Option Entry → Option Range
 placeWithin len none = none
 placeWithin len (some p) = given (leb (end p) len) (range (start p) (end p))
 
+-- where the plane of a kind stands: the first plane that covers it, if its bytes are all there
 unfoldable pub eccFor : ℕ → List ℕ → ℕ → Option Range
 eccFor n x k = placeWithin (length x) (firstThat (planeFor k) (entriesFor n x))
 

@@ -73,7 +73,7 @@ unfoldable pub entriesBytes : List Entry → List ℕ
 entriesBytes [] = []
 entriesBytes (e ∷ es) = entryBytes e ++ entriesBytes es
 
--- of n regions
+-- what the prologue of n regions has before its checksum
 unfoldable pub prologueStart : ℕ → ℕ → List ℕ
 prologueStart n flags = leBytes 4 0x4B415558 ++ (leBytes 2 0xFEFF ++ (leBytes 2 2 ++ (leBytes 2 n ++ leBytes 2 flags)))
 

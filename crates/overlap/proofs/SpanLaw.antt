@@ -21,7 +21,7 @@ use Rattle.view.specs.Answers.{foundAs}
 use Rattle.view.specs.declared.regions.RegionAt.{RegionAt}
 use Rattle.view.specs.declared.regions.RegionAt.the-variants as is
 use Rattle.view.proofs.AnswersLaw.{found-some}
-use Rattle.model.specs.Placement.{isSome}
+use Rattle.lemmas.specs.Steps.{isSome}
 use Rattle.model.proofs.WalkLaw.{nth-there}
 use Rattle.overlap.proofs.ApartLaw.{empty-right, starts-past, meets-else, lies-behind}
 use Rattle.overlap.specs.declared.Overlap.the-variants as on

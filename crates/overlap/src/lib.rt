@@ -8,7 +8,7 @@ ghost use lib.ListN.{length, take};
 ghost use Rattle.model.specs.Layout.{Entry};
 ghost use Rattle.model.specs.Views.{entriesFor};
 ghost use Rattle.model.specs.Mend as model;
-ghost use Rattle.model.specs.Placement.{isSome};
+ghost use Rattle.lemmas.specs.Steps.{isSome};
 ghost use Rattle.layout.specs.Regions.{asEntry};
 ghost use Rattle.view.specs.Answers.{asHeader};
 ghost use Rattle.overlap.specs.Answers.{asPlacement, overlapAs};

@@ -93,55 +93,30 @@ fn u16_from(b: &[u8], at: usize) -> u16
     join_2(b[at], b[at + 1])
 }
 
-// The same of 4.
-fn u32_from(b: &[u8], at: usize) -> u32
-    requires { ⌜ at + 4 ≤ length (now b) ⌝ }
-    ensures { λ r. ⌜ r ≡ read 4 (now (b .entry)) at ⌝ }
-{
-    join_4(b[at], b[at + 1], b[at + 2], b[at + 3])
-}
-
-// The same of 8.
-fn u64_from(b: &[u8], at: usize) -> u64
-    requires { ⌜ at + 8 ≤ length (now b) ⌝ }
-    ensures { λ r. ⌜ r ≡ read 8 (now (b .entry)) at ⌝ }
-{
-    join_8(
-        b[at],
-        b[at + 1],
-        b[at + 2],
-        b[at + 3],
-        b[at + 4],
-        b[at + 5],
-        b[at + 6],
-        b[at + 7],
-    )
-}
-
 fn join_2(b0: u8, b1: u8) -> u16
     ensures { λ r. ⌜ r ≡ b0 + b1 * 256 ⌝ }
 {
     b0 as u16 + (b1 as u16) * 256
 }
 
-fn join_4(b0: u8, b1: u8, b2: u8, b3: u8) -> u32
-    ensures { λ r. ⌜ r ≡ b0 + b1 * 256 + b2 * 65536 + b3 * 16777216 ⌝ }
+// The number of the 4 bytes from at on, by its two halves.
+fn u32_from(b: &[u8], at: usize) -> u32
+    requires { ⌜ at + 4 ≤ length (now b) ⌝ }
+    ensures { λ r. ⌜ r ≡ read 4 (now (b .entry)) at ⌝ }
 {
-    b0 as u32 + (b1 as u32) * 256 + (b2 as u32) * 65536 + (b3 as u32) * 16_777_216
+    let low = u16_from(b, at);
+    let high = u16_from(b, at + 2);
+    low as u32 + 0x1_0000 * (high as u32)
 }
 
-fn join_8(b0: u8, b1: u8, b2: u8, b3: u8, b4: u8, b5: u8, b6: u8, b7: u8) -> u64
-    ensures { λ r. ⌜ r ≡ b0 + b1 * 256 + b2 * 65536 + b3 * 16777216 + b4 * 4294967296 + b5 * 1099511627776
-        + b6 * 281474976710656 + b7 * 72057594037927936 ⌝ }
+// The number of the 8 bytes from at on, by its two halves.
+fn u64_from(b: &[u8], at: usize) -> u64
+    requires { ⌜ at + 8 ≤ length (now b) ⌝ }
+    ensures { λ r. ⌜ r ≡ read 8 (now (b .entry)) at ⌝ }
 {
-    b0 as u64
-        + (b1 as u64) * 256
-        + (b2 as u64) * 65536
-        + (b3 as u64) * 16_777_216
-        + (b4 as u64) * 4_294_967_296
-        + (b5 as u64) * 1_099_511_627_776
-        + (b6 as u64) * 281_474_976_710_656
-        + (b7 as u64) * 72_057_594_037_927_936
+    let low = u32_from(b, at);
+    let high = u32_from(b, at + 4);
+    low as u64 + 0x1_0000_0000 * (high as u64)
 }
 
 pub fn u8_bytes(v: u8) -> [u8; 1]

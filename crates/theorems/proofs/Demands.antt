@@ -45,10 +45,10 @@ use Rattle.error.specs.declared.Refusal.{Refusal}
 use Rattle.error.proofs.OneAnswer.{one-refusal}
 use Rattle.scan.specs.declared.ScanResult.{ScanResult}
 use Rattle.scan.specs.declared.ScanResult.the-variants as scan-says
-use Rattle.writer.specs.declared.plan.Row.{Row}
-use Rattle.writer.specs.Answers.{asPlan}
-use Rattle.writer.specs.declared.sizes.WriteResult.{WriteResult}
-use Rattle.writer.specs.declared.sizes.WriteResult.the-variants as write-says
+use Rattle.plan.specs.declared.rows.Row.{Row}
+use Rattle.plan.specs.Rows.{asPlan}
+use Rattle.writer.specs.declared.image.WriteResult.{WriteResult}
+use Rattle.writer.specs.declared.image.WriteResult.the-variants as write-says
 use Rattle.mending.specs.declared.MendResult.the-variants as mend-says
 use Rattle.theorems.specs.Damage.{Protected, bitsOff, Damaged, Touched, Uncorrectable, uncorrected, ReadsBack}
 use Rattle.theorems.specs.Runs.{Writes, MendsTo, ScrubsTo}

@@ -20,9 +20,9 @@ use Rattle.mending.proofs.OneAnswer.{one-mend}
 use Rattle.scan.specs.Answers.{asScan}
 use Rattle.scan.specs.declared.ScanResult.{ScanResult}
 use Rattle.scan.proofs.OneAnswer.{one-scan}
-use Rattle.writer.specs.Answers.{asPlan}
-use Rattle.writer.specs.declared.plan.Row.{Row}
-use Rattle.writer.specs.declared.sizes.WriteResult.the-variants.{Written}
+use Rattle.plan.specs.Rows.{asPlan}
+use Rattle.plan.specs.declared.rows.Row.{Row}
+use Rattle.writer.specs.declared.image.WriteResult.the-variants.{Written}
 use Rattle.mending.specs.Answers.{asMended}
 use Rattle.mending.specs.declared.Mending as answer
 use Rattle.mending.specs.declared.MendResult.{MendResult}

@@ -22,12 +22,13 @@ use Rattle.scan.specs.Answers.{asScan}
 use Rattle.scan.specs.declared.ScanResult.{ScanResult}
 use Rattle.scan.specs.declared.ScanResult.the-variants as scan-says
 use Rattle.scan.proofs.OneAnswer.{one-scan}
-use Rattle.writer.specs.Answers.{asRow, asPlan, asWritten, answerOf, bytesAfter, wrote}
+use Rattle.plan.specs.Rows.{asRow, asPlan}
+use Rattle.writer.specs.Answers.{asWritten, answerOf, bytesAfter, wrote}
 use Rattle.writer.specs.Answers as plan-answer
-use Rattle.writer.specs.declared.plan.Row.{Row}
-use Rattle.writer.specs.declared.sizes.WriteResult.{WriteResult}
-use Rattle.writer.specs.declared.sizes.WriteResult.the-variants.{Written}
-use Rattle.writer.specs.declared.sizes.WriteResult.the-variants as write
+use Rattle.plan.specs.declared.rows.Row.{Row}
+use Rattle.writer.specs.declared.image.WriteResult.{WriteResult}
+use Rattle.writer.specs.declared.image.WriteResult.the-variants.{Written}
+use Rattle.writer.specs.declared.image.WriteResult.the-variants as write
 use Rattle.mending.proofs.mend.Reads as mend
 use Rattle.scrubbing.proofs.scrub.Reads as scrub
 use Rattle.mending.specs.Answers.{asMended, leftBy}

@@ -9,9 +9,10 @@ use Rattle.model.specs.Mend.{mend}
 use Rattle.model.specs.Scrub.{scrub}
 use Rattle.model.specs.Writer.{write}
 use Rattle.model.specs.Programs.{scrubImage, scrubText}
-use Rattle.writer.specs.Answers.{asPlan, asWritten, answerOf, bytesAfter}
-use Rattle.writer.specs.declared.plan.Row.{Row}
-use Rattle.writer.specs.declared.sizes.WriteResult.{WriteResult}
+use Rattle.plan.specs.Rows.{asPlan}
+use Rattle.writer.specs.Answers.{asWritten, answerOf, bytesAfter}
+use Rattle.plan.specs.declared.rows.Row.{Row}
+use Rattle.writer.specs.declared.image.WriteResult.{WriteResult}
 use Rattle.scan.specs.Answers.{asScan}
 use Rattle.scan.specs.declared.ScanResult.{ScanResult}
 use Rattle.mending.specs.Answers.{asMended, leftBy}

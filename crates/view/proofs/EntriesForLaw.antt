@@ -15,12 +15,13 @@ use Rattle.model.specs.Refusals.{fine}
 use Rattle.model.specs.Layout.{Entry, count, headerLength, voted, directoryBytesOf, directoryOf, directory, entries, start, end}
 use Rattle.model.specs.Parse.{parseVerdict}
 use Rattle.model.specs.Views.{Range, range, entriesFor, nth, regionAt, firstThat, ofKind, planeFor, findRegion, placeWithin, eccFor}
-use Rattle.model.proofs.LayoutLaw.{entryIn, noEntry, entry-at, length-directoryOf, kind-in, flags-in, offset-in, words-in, covers-in}
+use Rattle.model.proofs.LayoutLaw.{entryIn, noEntry, entry-at, length-directoryOf, flags-in, covers-in}
 use Rattle.model.proofs.ParseLaw.{accepted-long}
 use Rattle.model.proofs.WalkLaw.{nth-in, nth-past}
 use Rattle.layout.specs.declared.Region.{Region}
 use Rattle.layout.specs.Regions.{regionOf}
 use Rattle.layout.proofs.FlagLaw.{flag}
+use Rattle.vote.proofs.RegionLaw.{kind-front}
 
 pub entriesFor-short : (n : ℕ) (x : List ℕ) → length x < headerLength n → entriesFor n x ≡ []
 unfolding entriesFor
@@ -90,21 +91,11 @@ module _ (n : ℕ) (x : List ℕ) (k : ℕ) (h : headerLength n ≤ length x) wh
 -- ---- what is read of entry i, field by field
 
 module _ (n : ℕ) (x : List ℕ) (i : ℕ) where
-  pub region-read : (k f o w v : ℕ)
-      → k ≡ read 2 (voted 48 (16 * n) x) (16 * i) → f ≡ read 2 (voted 48 (16 * n) x) (16 * i + 2) → o ≡ read 4 (voted 48 (16 * n) x) (16 * i + 4)
-      → w ≡ read 4 (voted 48 (16 * n) x) (16 * i + 8) → v ≡ read 2 (voted 48 (16 * n) x) (16 * i + 12)
-      → _≡_ {A = Region} (record { kind = k; flags = f; «word_offset» = o; «word_length» = w; covers = v }) (regionOf (entryIn n x i))
-  unfolding directoryBytesOf
-  region-read k f o w v ek ef eo ew ev =
-      rw (ek, ef, eo, ew, ev, kind-in n x i, flags-in n x i, offset-in n x i, words-in n x i, covers-in n x i)
+  pub kind-test : (k r : ℕ) → r ≡ read 2 (voted 48 (16 * n) x) (16 * i + 0) → r ≡ k → ofKind k (entryIn n x i) ≡ true
+  kind-test k r e f = eq-eqb (entryIn n x i .kind) k (sym (e ∙ kind-front n x i) ∙ f)
 
-  pub kind-test : (k r : ℕ) → r ≡ read 2 (voted 48 (16 * n) x) (16 * i) → r ≡ k → ofKind k (entryIn n x i) ≡ true
-  unfolding directoryBytesOf
-  kind-test k r e f = eq-eqb (entryIn n x i .kind) k (kind-in n x i ∙ sym e ∙ f)
-
-  pub kind-test-not : (k r : ℕ) → r ≡ read 2 (voted 48 (16 * n) x) (16 * i) → (r ≡ k → ⊥) → ofKind k (entryIn n x i) ≡ false
-  unfolding directoryBytesOf
-  kind-test-not k r e f = ne-eqb (entryIn n x i .kind) k (λ g. f (e ∙ sym (kind-in n x i) ∙ g))
+  pub kind-test-not : (k r : ℕ) → r ≡ read 2 (voted 48 (16 * n) x) (16 * i + 0) → (r ≡ k → ⊥) → ofKind k (entryIn n x i) ≡ false
+  kind-test-not k r e f = ne-eqb (entryIn n x i .kind) k (λ g. f (e ∙ kind-front n x i ∙ g))
 
   pub plane-test : (k f v : ℕ) (r : Bool) → f ≡ read 2 (voted 48 (16 * n) x) (16 * i + 2) → v ≡ read 2 (voted 48 (16 * n) x) (16 * i + 12)
       → r ≡ bit f 3 && eqb v k → planeFor k (entryIn n x i) ≡ r

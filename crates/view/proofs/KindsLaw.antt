@@ -1,6 +1,6 @@
 -- The kinds of the entries, and whether one is among them. Assumes nothing.
 use mathlib.Core.Path.{_≡_, refl, sym, ap, ap₂, _∙_}
-use mathlib.Core.Bool.{Bool, true, false, _||_}
+use mathlib.Core.Bool.{Bool, true, false, _||_, or-true}
 use mathlib.Core.List.{List, [], _∷_}
 use Prim.Native.Nat.{ℕ, zero, suc, _+_, _*_, _≤_, _<_}
 use native.Mathlib.Numerals.{add-one}
@@ -13,7 +13,8 @@ use lib.ListN.{drop-of-length-le}
 use Rattle.model.specs.Bytes.{read}
 use Rattle.model.specs.Layout.{Entry, voted, directoryBytesOf, directoryOf, entries}
 use Rattle.model.specs.Parse.{among}
-use Rattle.model.proofs.LayoutLaw.{entryIn, noEntry, entry-at, length-directoryOf, kind-in}
+use Rattle.model.proofs.LayoutLaw.{entryIn, noEntry, entry-at, length-directoryOf}
+use Rattle.vote.proofs.RegionLaw.{kind-front}
 use Rattle.view.specs.Kinds.{kindsOf, elem}
 
 pub length-kinds : (es : List Entry) → length (kindsOf es) ≡ length es
@@ -49,15 +50,10 @@ pub kind-at : (n : ℕ) (x : List ℕ) (i : ℕ) → i < n → getD (kindsOf (di
 unfolding directoryOf
 kind-at n x i h = kind-nth (entries n (directoryBytesOf n x)) i ∙ ap (λ (e : Entry). e .kind) (entry-at n (directoryBytesOf n x) i noEntry h)
 
-pub kind-read : (n : ℕ) (x : List ℕ) (i : ℕ) → i < n → getD (kindsOf (directoryOf n x)) i 0 ≡ read 2 (voted 48 (16 * n) x) (16 * i)
-unfolding directoryBytesOf
-kind-read n x i h = kind-at n x i h ∙ kind-in n x i
+pub kind-read : (n : ℕ) (x : List ℕ) (i : ℕ) → i < n → getD (kindsOf (directoryOf n x)) i 0 ≡ read 2 (voted 48 (16 * n) x) (16 * i + 0)
+kind-read n x i h = kind-at n x i h ∙ sym (kind-front n x i)
 
 -- ---- a search that goes on to the end
-
-or-true : (t : Bool) → t || true ≡ true
-or-true true = refl
-or-true false = refl
 
 module _ (k : ℕ) (xs : List ℕ) (j : ℕ) (h : j < length xs) where
   pub elem-hit : (t : Bool) → getD xs j 0 ≡ k → true || elem k (drop (j + 1) xs) ≡ t || elem k (drop j xs)

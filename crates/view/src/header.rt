@@ -9,16 +9,23 @@ ghost use Rattle.model.proofs.LayoutLaw.{entryIn};
 ghost use Rattle.error.specs.Refused.{asCheck};
 ghost use Rattle.view.specs.Answers.{asCounted, withCount, asParsed};
 ghost use Rattle.view.specs.Kinds.{elem, kindsOf};
-use super::vote::copies_differ;
-use super::vote::voted_checksum;
-use super::vote::voted_u16;
-use super::vote::voted_u32;
 use error::Check;
 use error::Refusal;
 use layout::BOM;
+use layout::DIR_ENTRY_BYTES;
+use layout::DIRECTORY_OFFSET;
 use layout::FORMAT_VERSION;
 use layout::MAGIC;
 use layout::MAX_REGIONS;
+use layout::PROLOGUE_BYTES;
+use layout::WORD;
+use layout::header_length;
+use vote::copies_differ;
+use vote::entry_u16;
+use vote::entry_u32;
+use vote::voted_checksum;
+use vote::voted_u16;
+use vote::voted_u32;
 
 // An accepted image's number of regions, and which header copies disagreed with their vote.
 pub struct Header {
@@ -55,8 +62,12 @@ pub fn parse(bytes: &[u8]) -> ParseResult
         Counted::Refuse(refusal) => ParseResult::Refused(refusal),
         Counted::Count(n) => ParseResult::Parsed(Header {
             region_count: n,
-            prologue_disagreed: copies_differ(bytes, 0, 16),
-            directory_disagreed: copies_differ(bytes, 48, 16 * (n as usize)),
+            prologue_disagreed: copies_differ(bytes, 0, PROLOGUE_BYTES),
+            directory_disagreed: copies_differ(
+                bytes,
+                DIRECTORY_OFFSET,
+                DIR_ENTRY_BYTES * (n as usize),
+            ),
         }),
     }
 }
@@ -65,14 +76,14 @@ pub fn parse(bytes: &[u8]) -> ParseResult
 fn check_header(bytes: &[u8]) -> Counted
     ensures { λ r. ⌜ asCounted r ≡ withCount (model.parseVerdict (now (bytes .entry))) (count (now (bytes .entry))) ⌝ }
 {
-    if bytes.len() < 48 {
+    if bytes.len() < DIRECTORY_OFFSET {
         return Counted::Refuse(Refusal::Truncated);
     }
     let checked = check_prologue(bytes);
     let Counted::Count(n) = checked else {
         return checked;
     };
-    if bytes.len() < 48 + 48 * (n as usize) {
+    if bytes.len() < header_length(n) {
         return Counted::Refuse(Refusal::Truncated);
     }
     match check_directory(bytes, n as usize) {
@@ -86,20 +97,20 @@ fn check_prologue(bytes: &[u8]) -> Counted
     requires { ⌜ 48 ≤ length (now bytes) ⌝ }
     ensures { λ r. ⌜ asCounted r ≡ withCount (model.prologueVerdict (prologue (now (bytes .entry)))) (count (now (bytes .entry))) ⌝ }
 {
-    if voted_u32(bytes, 0, 16, 0) != MAGIC {
+    if voted_u32(bytes, 0, PROLOGUE_BYTES, 0) != MAGIC {
         return Counted::Refuse(Refusal::BadMagic);
     }
-    if voted_u16(bytes, 0, 16, 4) != BOM {
+    if voted_u16(bytes, 0, PROLOGUE_BYTES, 4) != BOM {
         return Counted::Refuse(Refusal::ForeignEndian);
     }
-    let version = voted_u16(bytes, 0, 16, 6);
+    let version = voted_u16(bytes, 0, PROLOGUE_BYTES, 6);
     if version != FORMAT_VERSION {
         return Counted::Refuse(Refusal::UnsupportedVersion { found: version });
     }
-    if voted_u32(bytes, 0, 16, 12) != voted_checksum(bytes) {
+    if voted_u32(bytes, 0, PROLOGUE_BYTES, 12) != voted_checksum(bytes) {
         return Counted::Refuse(Refusal::BadPrologueChecksum);
     }
-    let n = voted_u16(bytes, 0, 16, 8);
+    let n = voted_u16(bytes, 0, PROLOGUE_BYTES, 8);
     if n as usize > MAX_REGIONS {
         return Counted::Refuse(Refusal::TooManyRegions { found: n as usize });
     }
@@ -130,7 +141,7 @@ fn vote_kinds(bytes: &[u8], n: usize, kinds: &mut [u16])
 {
     let mut i: usize = 0;
     while i < n {
-        kinds[i] = voted_u16(bytes, 48, 16 * n, 16 * i);
+        kinds[i] = entry_u16(bytes, n, i, 0);
         i += 1;
     }
 }
@@ -160,9 +171,9 @@ fn voted_end(bytes: &[u8], n: usize, i: usize) -> usize
     requires { ⌜ (headerLength n ≤ length (now bytes)) × (i < n) ⌝ }
     ensures { λ r. ⌜ r ≡ end (entryIn n (now (bytes .entry)) i) ⌝ }
 {
-    let offset = voted_u32(bytes, 48, 16 * n, 16 * i + 4);
-    let words = voted_u32(bytes, 48, 16 * n, 16 * i + 8);
-    8 * (offset as usize + words as usize)
+    let offset = entry_u32(bytes, n, i, 4);
+    let words = entry_u32(bytes, n, i, 8);
+    WORD * (offset as usize + words as usize)
 }
 
 // It does not stop at the first hit: a loop that always runs to its end is compiled to wide compares.

@@ -1,7 +1,6 @@
-// The reader, after view.rs: parse, lookups and scans over a caller's bytes.
+// The reader, after view.rs: parse and lookups over a caller's bytes.
 mod header;
 mod regions;
-mod vote;
 
 pub use header::Header;
 pub use header::ParseResult;

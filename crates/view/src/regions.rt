@@ -9,11 +9,13 @@ ghost use Rattle.model.specs.Views.{regionAt, findRegion, firstThat, planeFor, 
 ghost use Rattle.tables.specs.Answers.{asPlace};
 ghost use Rattle.view.specs.Answers.{foundAs};
 use super::header::Header;
-use super::vote::voted_region;
-use super::vote::voted_u16;
 use layout::FLAG_IS_ECC;
 use layout::Region;
+use layout::WORD;
+use layout::header_length;
 use tables::Place;
+use vote::entry_u16;
+use vote::voted_region;
 
 pub enum RegionAt {
     Found(Region),
@@ -26,7 +28,7 @@ pub fn region_at(bytes: &[u8], header: Header, index: u16) -> RegionAt
 {
     let n = header.region_count as usize;
     let i = index as usize;
-    if bytes.len() < 48 + 48 * n {
+    if bytes.len() < header_length(header.region_count) {
         return RegionAt::Nothing;
     }
     if n <= i {
@@ -40,12 +42,12 @@ pub fn find_region(bytes: &[u8], header: Header, kind: u16) -> RegionAt
     ensures { λ r. ⌜ r ≡ foundAs (findRegion (header .«region_count») (now (bytes .entry)) kind) ⌝ }
 {
     let n = header.region_count as usize;
-    if bytes.len() < 48 + 48 * n {
+    if bytes.len() < header_length(header.region_count) {
         return RegionAt::Nothing;
     }
     let mut i: usize = 0;
     while i < n {
-        if voted_u16(bytes, 48, 16 * n, 16 * i) == kind {
+        if entry_u16(bytes, n, i, 0) == kind {
             return RegionAt::Found(voted_region(bytes, n, i));
         }
         i += 1;
@@ -70,8 +72,8 @@ pub(crate) fn plane_of(bytes: &[u8], n: usize, kind: u16) -> RegionAt
 {
     let mut i: usize = 0;
     while i < n {
-        let flags = voted_u16(bytes, 48, 16 * n, 16 * i + 2);
-        if covers_kind(flags, voted_u16(bytes, 48, 16 * n, 16 * i + 12), kind) {
+        let flags = entry_u16(bytes, n, i, 2);
+        if covers_kind(flags, entry_u16(bytes, n, i, 12), kind) {
             return RegionAt::Found(voted_region(bytes, n, i));
         }
         i += 1;
@@ -84,13 +86,13 @@ pub fn ecc_for(bytes: &[u8], header: Header, region: Region) -> Place
     ensures { λ r. ⌜ asPlace r ≡ eccFor (header .«region_count») (now (bytes .entry)) (region .kind) ⌝ }
 {
     let n = header.region_count as usize;
-    if bytes.len() < 48 + 48 * n {
+    if bytes.len() < header_length(header.region_count) {
         return Place::Nothing;
     }
     match plane_of(bytes, n, region.kind) {
         RegionAt::Found(plane) => {
-            let start = 8 * (plane.word_offset as usize);
-            let end = start + 8 * (plane.word_length as usize);
+            let start = WORD * (plane.word_offset as usize);
+            let end = start + WORD * (plane.word_length as usize);
             if bytes.len() < end {
                 return Place::Nothing;
             }

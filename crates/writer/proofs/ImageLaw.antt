@@ -7,8 +7,9 @@ use lib.ListN.{length, length-append}
 use Rattle.model.specs.Bytes.{thrice}
 use Rattle.model.specs.Writer.{Row, rowEntries, planeEntries, rowWords, regions, firstWord, planDirectory, entriesBytes, prologueBytes, planesBytes, planImage, imageLength}
 use Rattle.model.proofs.BytesLaw.{length-thrice}
-use Rattle.lemmas.proofs.ImageLaw.{length-entriesBytes, length-directory, length-prologueBytes}
+use Rattle.lemmas.proofs.ImageLaw.{length-entriesBytes, length-directory}
 use Rattle.lemmas.proofs.PlanCodewords.{length-planes}
+use Rattle.put_header.proofs.PrologueLaw.{prologues-length}
 
 -- one copy of the directory, the regions packed from word a on, the rows' words together w
 abbrev pub copyOf : ℕ → ℕ → List Row → List ℕ
@@ -20,9 +21,6 @@ copy-is a w rs e f = ap₂ (λ (b v : ℕ). copyOf b v rs) e f
 
 pub copy-length : (rs : List Row) → length (entriesBytes (planDirectory rs)) ≡ 16 * regions rs
 copy-length rs = length-entriesBytes (planDirectory rs) ∙ ap (λ (m : ℕ). 16 * m) (length-directory rs)
-
-pub prologues-length : (n flags : ℕ) → length (thrice (prologueBytes n flags)) ≡ 48
-prologues-length n flags = length-thrice (prologueBytes n flags) 16 (length-prologueBytes n flags)
 
 pub copies-length : (rs : List Row) → length (thrice (entriesBytes (planDirectory rs))) ≡ 48 * regions rs
 copies-length rs = length-thrice (entriesBytes (planDirectory rs)) (16 * regions rs) (copy-length rs) ∙ omega arith

@@ -1,12 +1,6 @@
 pub mod AnswerLaw
-pub mod EntriesLaw
 pub mod ImageLaw
-pub mod SizesLaw
 pub mod Laid
-pub mod LoopLaw
-pub mod MarksLaw
 pub mod OneAnswer
-pub mod RowsLaw
-pub mod RunLaw
-pub mod CheckingLaw
+pub mod PlanesLaw
 pub mod WriteLaw

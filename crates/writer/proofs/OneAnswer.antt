@@ -7,8 +7,8 @@ use Rattle.model.specs.Refusals.{refuse}
 use Rattle.model.proofs.OneAnswer.{OneAnswerAnd, Reading, agree}
 use Rattle.error.specs.Refused.{numberOf, detailOf}
 use Rattle.error.proofs.OneAnswer.{one-refusal}
-use Rattle.writer.specs.declared.sizes.WriteResult.{WriteResult}
-use Rattle.writer.specs.declared.sizes.WriteResult.the-variants.{Written, Refused}
+use Rattle.writer.specs.declared.image.WriteResult.{WriteResult}
+use Rattle.writer.specs.declared.image.WriteResult.the-variants.{Written, Refused}
 use Rattle.writer.specs.Answers.{asWritten}
 use Rattle.writer.proofs.write as write
 

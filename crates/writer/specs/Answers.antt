@@ -1,21 +1,14 @@
--- The rows and the answer as the model has them, and what the lent output holds afterwards. (FORMAT 9)
+-- The answer as the model has it, and what the lent output holds afterwards. (FORMAT 9)
 use mathlib.Core.Path.{_≡_}
-use mathlib.Core.List.{List, [], _∷_, _++_}
-use Prim.Native.Nat.{ℕ}
+use mathlib.Core.List.{List, _++_}
+use Prim.Native.Nat.{ℕ, _*_, _≤_}
 use lib.ListN.{length, drop}
-use Rattle.model.specs.Refusals.{Verdict, fine, refuse}
+use Rattle.model.specs.Refusals.{Verdict}
 use Rattle.model.specs.Writer as model
 use Rattle.error.specs.Refused.{numberOf, detailOf}
-use Rattle.writer.specs.declared.plan.Row.{Row}
-use Rattle.writer.specs.declared.sizes.WriteResult.{WriteResult}
-use Rattle.writer.specs.declared.sizes.WriteResult.the-variants.{Written, Refused}
-
-abbrev pub asRow : Row → model.Row
-asRow r = record { kind = r .kind; flags = r .flags; words = r .words }
-
-unfoldable pub asPlan : List Row → List model.Row
-asPlan [] = []
-asPlan (r ∷ rs) = asRow r ∷ asPlan rs
+use Rattle.plan.specs.Kept.{rowsOf, Low}
+use Rattle.writer.specs.declared.image.WriteResult.{WriteResult}
+use Rattle.writer.specs.declared.image.WriteResult.the-variants.{Written, Refused}
 
 -- an image's length, or a refusal
 pub data WriteAnswer : Type 0 where
@@ -37,12 +30,17 @@ bytesAfter (model.refusedPlan n d) out = out
 
 -- ---- steps of code, for private contracts
 
--- a verdict and the length that an accepted plan's image has
-abbrev pub answerAs : Verdict → ℕ → WriteAnswer
-answerAs fine n = wrote n
-answerAs (refuse n d) k = refused n d
-
 -- what a run says, of a plan with this verdict: its answer, and every byte of the output
 pub record Answered (v : Verdict) (rs : List model.Row) (payload before : List ℕ) (r : WriteResult) (after : List ℕ) : Type 0 where
   pub answer : asWritten r ≡ answerOf (model.writeAs v (model.planImage rs payload))
   pub bytes : after ≡ bytesAfter (model.writeAs v (model.planImage rs payload)) before
+
+-- what the image of accepted rows asks
+pub record Sized (xs : List ℕ) (count : ℕ) (payload out : List ℕ) : Type 0 where
+  pub few : length xs ≤ 1024
+  pub small : count ≤ 1024
+  pub counted : count ≡ model.regions (rowsOf xs)
+  pub lowKinds : Low xs
+  pub full : length payload ≡ 8 * model.rowWords (rowsOf xs)
+  pub fits : model.imageLength (rowsOf xs) ≤ 8388608
+  pub room : model.imageLength (rowsOf xs) ≤ length out

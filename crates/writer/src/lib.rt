@@ -2,19 +2,18 @@
 ghost use mathlib.Core.Path.{_≡_};
 ghost use lib.ListN.{length};
 ghost use Rattle.model.specs.Writer as model;
-ghost use Rattle.writer.specs.Answers.{asPlan, asWritten, answerOf, bytesAfter};
+ghost use Rattle.plan.specs.Rows.{asPlan};
+ghost use Rattle.writer.specs.Answers.{asWritten, answerOf, bytesAfter};
 
 mod image;
-mod parts;
-mod plan;
-mod sizes;
+mod planes;
 
+pub use image::WriteResult;
 use image::write_plan;
 use plan::Checked;
-pub use plan::Row;
+use plan::Row;
 use plan::check_row;
 use plan::empty_plan;
-pub use sizes::WriteResult;
 
 // The image of the plan goes to the front of `out`, and the answer is its length; a refusal leaves every byte of `out` as it was.
 // This is the one function that holds a `&[Row]`, since its proof is by hand: each row goes to `check_row` by value, and what is

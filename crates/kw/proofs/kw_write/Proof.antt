@@ -40,13 +40,14 @@ use denote.Triple.Table.{entered, cited}
 use denote.Triple.Walked.{says, Stays, stay-none-slice, gave-slice, gave-ref, walkOf, goes-none-slice, goes-gave-slice, goes-gave-ref, Walks, ends-at, walked, walk-meets}
 use denote.Exit.{yes}
 use Rattle.model.specs.Writer as model
-use Rattle.writer.specs.declared.plan.Row.{Row}
-use Rattle.writer.specs.declared.sizes.WriteResult.{WriteResult}
-use Rattle.writer.specs.Answers.{asPlan, asWritten, answerOf, bytesAfter}
+use Rattle.plan.specs.declared.rows.Row.{Row}
+use Rattle.writer.specs.declared.image.WriteResult.{WriteResult}
+use Rattle.plan.specs.Rows.{asPlan}
+use Rattle.writer.specs.Answers.{asWritten, answerOf, bytesAfter}
 use Rattle.kw.specs.Writes.{numberIn, answerIn, writeNumber, writeAnswer}
-use Rattle.writer.proofs.plan.Row as T
-use Rattle.writer.proofs.sizes.WriteResult as R
-use Rattle.writer.proofs.sizes.WriteResult.Laws as R′
+use Rattle.plan.proofs.rows.Row as T
+use Rattle.writer.proofs.image.WriteResult as R
+use Rattle.writer.proofs.image.WriteResult.Laws as R′
 use Rattle.writer.proofs.write as write
 use Rattle.writer.proofs.write.Symbol as write-def
 use Rattle.writer.proofs.write.Symbol.{name as #write}

@@ -2,7 +2,7 @@
 use mathlib.Core.Path.{sym, ap, _∙_}
 use Prim.Native.Nat.{ℕ}
 use mathlib.Core.List.{[], _∷_}
-use Rattle.writer.specs.declared.sizes.WriteResult.{WriteResult}
+use Rattle.writer.specs.declared.image.WriteResult.{WriteResult}
 use Rattle.writer.specs.Answers.{asWritten}
 use Rattle.kw.specs.Writes.{numberIn, answerIn}
 use borrow.Author.Needs.{needs}

@@ -7,7 +7,7 @@ use native.Mathlib.Nat.{sub-zero}
 use native.Mathlib.Omega.{arith}
 use denote.Ref.{now}
 use lib.Dec.{eqb}
-use Rattle.model.specs.Placement.{isSome}
+use Rattle.lemmas.specs.Steps.{isSome}
 use Rattle.overlap.specs.Spans.{overlapsFrom}
 use Rattle.overlap.proofs.SpanLaw.{any-next, none-left}
 use Rattle.overlap.proofs.overlaps_any.Statement.{statement}

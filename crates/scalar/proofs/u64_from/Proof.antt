@@ -1,19 +1,25 @@
--- `scalar::u64_from` meets its contract. Each index is inside by the `requires`. Assumes nothing.
-use mathlib.Core.Path.{sym, _∙_}
+-- `scalar::u64_from` meets its contract. Assumes nothing.
+use native.Mathlib.Omega.{arith}
 use borrow.Author.Needs.{needs}
-use Rattle.model.proofs.BytesLaw.{places-8}
+use denote.Ref.{now}
+use Rattle.model.proofs.BytesLaw.{read-halves-8}
 use Rattle.scalar.proofs.u64_from.Statement.{statement}
 use Rattle.scalar.proofs.u64_from.Tie as tie
 
 returns : tie.Need-returns
-returns c = c .join-8 .ensures ∙ sym (places-8 _ _)
+returns c =
+    let g = c .before .before .before .args in
+    omega (arith, read-halves-8 (now (g .b)) (g .at), c .before .u32-from .ensures, c .u32-from2 .ensures)
 
 pub u64-from-spec : {M : Type 1} → statement M
 u64-from-spec =
     tie.close
     (tie.spec
-    (λ c. search needs) (λ c. search needs) (λ c. search needs) (λ c. search needs)
-    (λ c. search needs) (λ c. search needs) (λ c. search needs) (λ c. search needs)
-    (λ c. search needs) (λ c. search needs) (λ c. search needs) (λ c. search needs)
-    (λ c. search needs) (λ c. search needs) (λ c. search needs) (λ c κs. search needs)
+    (λ c κs. search needs)
+    (λ c. search needs)
+    (λ c κs. search needs)
+    (λ c. search needs)
+    (λ c. search needs)
+    (λ c. search needs)
+    (λ c. search needs)
     returns)

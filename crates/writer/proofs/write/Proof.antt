@@ -52,30 +52,32 @@ use denote.Triple.Table.{entered, cited}
 use denote.Triple.Walked.{says, Stays, stay-none-slice, gave-slice, walkOf, goes-none-slice, goes-gave-slice, Walks, ends-at, walked, walk-meets}
 use denote.Exit.{yes}
 use Rattle.model.specs.Writer as model
-use Rattle.writer.specs.declared.plan.Row.{Row}
-use Rattle.writer.specs.declared.plan.Checked.{Checked}
-use Rattle.writer.specs.declared.plan.Checked.the-variants.{Fine}
-use Rattle.writer.specs.declared.sizes.WriteResult.{WriteResult}
-use Rattle.writer.specs.Answers.{asPlan, asWritten, answerOf, bytesAfter, Answered}
-use Rattle.writer.specs.Kept.{rowsOf, keptRows, Kept, checkedVerdict}
-use Rattle.writer.specs.Checking.{checkRow, planAfter, checkRows}
+use Rattle.plan.specs.declared.rows.Row.{Row}
+use Rattle.plan.specs.declared.rows.Checked.{Checked}
+use Rattle.plan.specs.declared.rows.Checked.the-variants.{Fine}
+use Rattle.writer.specs.declared.image.WriteResult.{WriteResult}
+use Rattle.plan.specs.Rows.{asPlan}
+use Rattle.writer.specs.Answers.{asWritten, answerOf, bytesAfter, Answered}
+use Rattle.plan.specs.Kept.{rowsOf, keptRows, Kept, checkedVerdict}
+use Rattle.plan.specs.Checking.{checkRow, planAfter, checkRows}
 use Rattle.writer.proofs.Laid.{arrayTy, laid, lifted}
-use Rattle.writer.proofs.LoopLaw.{noRow, rowAt, further, over}
-use Rattle.writer.proofs.WriteLaw.{ready, answered-is}
-use Rattle.writer.proofs.plan.Row as T
-use Rattle.writer.proofs.plan.Row.Laws as T′
-use Rattle.writer.proofs.plan.Checked as S
-use Rattle.writer.proofs.plan.Checked.Laws as S′
-use Rattle.writer.proofs.sizes.WriteResult as R
-use Rattle.writer.proofs.sizes.WriteResult.Laws as R′
-use Rattle.writer.proofs.plan.empty_plan as empty-plan
-use Rattle.writer.proofs.plan.empty_plan.Symbol as empty-plan-def
-use Rattle.writer.proofs.plan.empty_plan.Symbol.{name as #empty-plan}
-use Rattle.writer.proofs.plan.empty_plan.Met as empty-plan-thm
-use Rattle.writer.proofs.plan.check_row as check-row
-use Rattle.writer.proofs.plan.check_row.Symbol as check-row-def
-use Rattle.writer.proofs.plan.check_row.Symbol.{name as #check-row}
-use Rattle.writer.proofs.plan.check_row.Met as check-row-thm
+use Rattle.plan.proofs.LoopLaw.{noRow, rowAt, further, over}
+use Rattle.plan.proofs.KeptLaw.{ready}
+use Rattle.writer.proofs.WriteLaw.{answered-is}
+use Rattle.plan.proofs.rows.Row as T
+use Rattle.plan.proofs.rows.Row.Laws as T′
+use Rattle.plan.proofs.rows.Checked as S
+use Rattle.plan.proofs.rows.Checked.Laws as S′
+use Rattle.writer.proofs.image.WriteResult as R
+use Rattle.writer.proofs.image.WriteResult.Laws as R′
+use Rattle.plan.proofs.empty_plan as empty-plan
+use Rattle.plan.proofs.empty_plan.Symbol as empty-plan-def
+use Rattle.plan.proofs.empty_plan.Symbol.{name as #empty-plan}
+use Rattle.plan.proofs.empty_plan.Met as empty-plan-thm
+use Rattle.plan.proofs.check_row as check-row
+use Rattle.plan.proofs.check_row.Symbol as check-row-def
+use Rattle.plan.proofs.check_row.Symbol.{name as #check-row}
+use Rattle.plan.proofs.check_row.Met as check-row-thm
 use Rattle.writer.proofs.image.write_plan as plan
 use Rattle.writer.proofs.image.write_plan.Symbol as plan-def
 use Rattle.writer.proofs.image.write_plan.Symbol.{name as #write-plan}
@@ -450,6 +452,6 @@ write-spec 𝓤 H 𝓜 𝓖 𝓡 =
     entered 𝓤 H (tripleOf 𝓤 H (𝓖 .A) write.signature (write.spec 𝓤 H (𝓖 .A) (𝓜 .mem) (𝓡 .run)))
     (tables 𝓤 H 𝓜 𝓡 code.env .C) (tables 𝓤 H 𝓜 𝓡 code.env .Λ) #write code.function (code.unfolded 𝓤 H 𝓜 𝓡)
     (write-meets 𝓤 H (𝓖 .A) (givenOf 𝓤 H 𝓜 𝓖) (𝓜 .mem) (𝓡 .run) (tablesOf 𝓤 H 𝓜 (tables 𝓤 H 𝓜 𝓡 code.env))
-    (cited 𝓤 H (EmptyPlan 𝓤 H (𝓖 .A) (𝓜 .mem) (𝓡 .run)) 𝓜 𝓡 code.env #empty-plan empty-plan-def.routine code.calls-writer·plan·empty-plan (empty-plan-thm.met 𝓤 H 𝓜 𝓖 𝓡))
-    (cited 𝓤 H (CheckRow 𝓤 H (𝓖 .A) (𝓜 .mem) (𝓡 .run)) 𝓜 𝓡 code.env #check-row check-row-def.routine code.calls-writer·plan·check-row (check-row-thm.met 𝓤 H 𝓜 𝓖 𝓡))
+    (cited 𝓤 H (EmptyPlan 𝓤 H (𝓖 .A) (𝓜 .mem) (𝓡 .run)) 𝓜 𝓡 code.env #empty-plan empty-plan-def.routine code.calls-plan·empty-plan (empty-plan-thm.met 𝓤 H 𝓜 𝓖 𝓡))
+    (cited 𝓤 H (CheckRow 𝓤 H (𝓖 .A) (𝓜 .mem) (𝓡 .run)) 𝓜 𝓡 code.env #check-row check-row-def.routine code.calls-plan·check-row (check-row-thm.met 𝓤 H 𝓜 𝓖 𝓡))
     (cited 𝓤 H (WritePlan 𝓤 H (𝓖 .A) (𝓜 .mem) (𝓡 .run)) 𝓜 𝓡 code.env #write-plan plan-def.routine code.calls-writer·image·write-plan (plan-thm.met 𝓤 H 𝓜 𝓖 𝓡)))

@@ -29,7 +29,7 @@ use denote.Triple.Entry.{onEntry}
 use denote.Triple.Walked.{walkOf}
 use Rattle.model.specs.Scan.{sliceWord, sliceScan}
 use Rattle.ecc.specs.Answers.{asWord, asReport}
-use Rattle.kw_test.specs.Held.{planeAnswer}
+use Rattle.kw_test.specs.Borrowed.{planeAnswer}
 use Rattle.borrowed.proofs.plane.EccPlane as T
 use Rattle.borrowed.proofs.plane.EccPlane.Laws as T′
 use Rattle.ecc.proofs.PlaneWord as Word

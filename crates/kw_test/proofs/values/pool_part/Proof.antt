@@ -32,7 +32,7 @@ use Rattle.model.specs.Views.{partIn, poolRange}
 use Rattle.tables.specs.Answers.{asPlace}
 use Rattle.tables.specs.Parts.{VeryPartIn}
 use Rattle.kw_test.specs.Reader.{partNumbers}
-use Rattle.kw_test.specs.Held.{partAnswer}
+use Rattle.kw_test.specs.Borrowed.{partAnswer}
 use Rattle.borrowed.proofs.pool.Pool as T
 use Rattle.borrowed.proofs.pool.Pool.Laws as T′
 use Rattle.tables.proofs.Place as Place

@@ -29,7 +29,7 @@ use denote.Triple.Entry.{onEntry}
 use denote.Triple.Walked.{walkOf}
 use Rattle.model.specs.Views.{recordCount, rangeIsForward}
 use Rattle.tables.specs.Parts.{PartAt}
-use Rattle.kw_test.specs.Held.{tableOf, strideOf}
+use Rattle.kw_test.specs.Borrowed.{tableOf, strideOf}
 use Rattle.borrowed.proofs.table.RecordTable as T
 use Rattle.borrowed.proofs.table.RecordTable.Laws as T′
 use Rattle.kw_test.proofs.Joined.{forward-is}

@@ -31,7 +31,7 @@ use denote.Triple.Walked.{walkOf}
 use Rattle.model.specs.Views.{partIn, recordRange}
 use Rattle.tables.specs.Answers.{asPlace}
 use Rattle.tables.specs.Parts.{PartAt, VeryPartIn}
-use Rattle.kw_test.specs.Held.{tableOf, strideOf, partAnswer}
+use Rattle.kw_test.specs.Borrowed.{tableOf, strideOf, partAnswer}
 use Rattle.borrowed.proofs.table.RecordTable as T
 use Rattle.borrowed.proofs.table.RecordTable.Laws as T′
 use Rattle.tables.proofs.Place as Place

@@ -31,7 +31,7 @@ use denote.Triple.Walked.{walkOf}
 use Rattle.bits.specs.Bit.{num}
 use Rattle.model.specs.Views.{recordCount}
 use Rattle.tables.specs.Parts.{PartAt}
-use Rattle.kw_test.specs.Held.{tableOf, strideOf, tableNumbers}
+use Rattle.kw_test.specs.Borrowed.{tableOf, strideOf, tableNumbers}
 use Rattle.borrowed.proofs.table.RecordTable as T
 use Rattle.borrowed.proofs.table.RecordTable.Laws as T′
 use Rattle.kw_test.proofs.Joined.{size-is}

@@ -2,6 +2,7 @@
 use mathlib.Core.Path.{_≡_, sym, ap, _∙_, subst}
 use mathlib.Core.List.{List}
 use Prim.Native.Nat.{ℕ, _-_, _≤_, _<_}
+use native.Mathlib.Omega.{arith}
 use borrow.Author.Needs.{needs}
 use denote.Ref.{now}
 use lib.ListN.{length}
@@ -68,16 +69,16 @@ returns-2 c =
 
 returns-3 : tie.Need-returns-3
 returns-3 c =
-    let k = c .before .before in
+    let k = c .before .before .before in
     let p = k .before .before in
     short-header (now (p .before .before .before .args .bytes)) (p .before .if1 .left) (p .check-prologue .result) (p .check-prologue .ensures)
-    (k .checked .given .0 .0) (k .checked .given .1) (c .if2 .taken)
+    (k .checked .given .0 .0) (k .checked .given .1) (omega (arith, c .if2 .taken, c .before .header-length .ensures))
 
 check-directory-requires : tie.Need-check-directory-requires
 check-directory-requires c κs =
-    let k = c .before .before in
+    let k = c .before .before .before in
     let p = k .before .before in (
-      c .if2 .left,
+      omega (arith, c .if2 .left, c .before .header-length .ensures),
       small-count (now (p .before .before .before .args .bytes)) (p .before .if1 .left) (p .check-prologue .result) (p .check-prologue .ensures)
           (k .checked .given .0 .0) (k .checked .given .1),
     )
@@ -85,18 +86,18 @@ check-directory-requires c κs =
 returns-4 : tie.Need-returns-4
 returns-4 c =
     let d = c .before .before in
-    let k = d .before .before .before in
+    let k = d .before .before .before .before in
     let p = k .before .before in
     all-fine (now (p .before .before .before .args .bytes)) (p .before .if1 .left) (p .check-prologue .result) (p .check-prologue .ensures)
-    (k .checked .given .0 .0) (k .checked .given .1) (d .before .if2 .left) (d .check-directory .result) (d .check-directory .ensures) (c .enum-told2 .given .1)
+    (k .checked .given .0 .0) (k .checked .given .1) (omega (arith, d .before .if2 .left, d .before .before .header-length .ensures)) (d .check-directory .result) (d .check-directory .ensures) (c .enum-told2 .given .1)
 
 returns-5 : tie.Need-returns-5
 returns-5 c =
     let d = c .before .before .before in
-    let k = d .before .before .before in
+    let k = d .before .before .before .before in
     let p = k .before .before in
     entry-refused (now (p .before .before .before .args .bytes)) (p .before .if1 .left) (p .check-prologue .result) (p .check-prologue .ensures)
-    (k .checked .given .0 .0) (k .checked .given .1) (d .before .if2 .left) (d .check-directory .result) (d .check-directory .ensures)
+    (k .checked .given .0 .0) (k .checked .given .1) (omega (arith, d .before .if2 .left, d .before .before .header-length .ensures)) (d .check-directory .result) (d .check-directory .ensures)
     (c .before .refusal .given .0 .0) (c .before .refusal .given .1)
 
 pub check-header-spec : {M : Type 1} → statement M
@@ -108,9 +109,7 @@ check-header-spec =
     (λ c. search needs)
     (λ c. search needs)
     returns-2
-    (λ c. search needs)
-    (λ c. search needs)
-    (λ c. search needs)
+    (λ c κs. search needs)
     returns-3
     (λ c. search needs)
     check-directory-requires

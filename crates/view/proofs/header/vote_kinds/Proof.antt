@@ -29,9 +29,9 @@ loop-again c =
     let ks = kindsOf (directoryOf (g .n) (now (g .bytes))) in (
       omega arith,
       simp length-set (a .loop .inv .1),
-      below-more (λ p. getD (set (a .loop .kinds) (a .loop .i) (c .voted-u16 .result)) p 0 ≡ getD ks p 0) (a .loop .i)
-          (λ p h. getD-set-other (a .loop .kinds) (a .loop .i) p (c .voted-u16 .result) 0 (omega arith) ∙ a .loop .inv .2 p h)
-          (getD-set-same (a .loop .kinds) (a .loop .i) (c .voted-u16 .result) 0 (omega arith) ∙ c .voted-u16 .ensures
+      below-more (λ p. getD (set (a .loop .kinds) (a .loop .i) (c .entry-u16 .result)) p 0 ≡ getD ks p 0) (a .loop .i)
+          (λ p h. getD-set-other (a .loop .kinds) (a .loop .i) p (c .entry-u16 .result) 0 (omega arith) ∙ a .loop .inv .2 p h)
+          (getD-set-same (a .loop .kinds) (a .loop .i) (c .entry-u16 .result) 0 (omega arith) ∙ c .entry-u16 .ensures
           ∙ sym (kind-read (g .n) (now (g .bytes)) (a .loop .i) (omega arith))),
     )
 
@@ -49,8 +49,6 @@ vote-kinds-spec =
     Inv-loop
     μ-loop
     loop-holds
-    (λ c. omega arith)
-    (λ c. omega arith)
     (λ c κs. omega arith)
     (λ c. omega arith)
     (λ c. omega arith)

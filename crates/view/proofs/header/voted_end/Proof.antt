@@ -13,19 +13,13 @@ returns : tie.Need-returns
 unfolding directoryBytesOf
 returns c =
     let g = c .before .before .before .args in
-    omega (arith, offset-in (g .n) (now (g .bytes)) (g .i), words-in (g .n) (now (g .bytes)) (g .i), c .before .voted-u32 .ensures, c .voted-u322 .ensures)
+    omega (arith, offset-in (g .n) (now (g .bytes)) (g .i), words-in (g .n) (now (g .bytes)) (g .i), c .before .entry-u32 .ensures, c .entry-u322 .ensures)
 
 pub voted-end-spec : {M : Type 1} → statement M
 voted-end-spec =
     tie.close
     (tie.spec
-    (λ c. search needs)
-    (λ c. search needs)
-    (λ c. search needs)
     (λ c κs. search needs)
-    (λ c. search needs)
-    (λ c. search needs)
-    (λ c. search needs)
     (λ c κs. search needs)
     (λ c. search needs)
     (λ c. search needs)

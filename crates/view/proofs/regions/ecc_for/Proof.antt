@@ -41,39 +41,38 @@ module _ (n : ℕ) (x : List ℕ) (k : ℕ) (h : headerLength n ≤ length x) (p
       ∙ sym (ecc-there n x k h (plane .0) (plane .1) (subst (λ (z : ℕ). z ≤ length x) ends l))
 
 returns : tie.Need-returns
-returns c = let g = c .before .before .before .args in sym (ecc-short (g .header .«region_count») (now (g .bytes)) (g .region .kind) (c .if1 .taken))
+returns c = let g = c .before .before .before .before .args in sym (ecc-short (g .header .«region_count») (now (g .bytes)) (g .region .kind) (omega (arith, c .if1 .taken, c .before .header-length .ensures)))
 
 returns-2 : tie.Need-returns-2
 returns-2 c =
     let k = c .before .before .before .before in
     let p = k .before .before in
-    let g = p .before .before .before .before .args in
-    past-end (g .header .«region_count») (now (g .bytes)) (g .region .kind) (p .before .if1 .left) (k .plane .given .0 .0) (sym (k .plane .given .1) ∙ p .plane-of .ensures) (c .if2 .taken)
+    let g = p .before .before .before .before .before .args in
+    past-end (g .header .«region_count») (now (g .bytes)) (g .region .kind) (omega (arith, p .before .if1 .left, p .before .before .header-length .ensures)) (k .plane .given .0 .0) (sym (k .plane .given .1) ∙ p .plane-of .ensures) (c .if2 .taken)
 
 returns-3 : tie.Need-returns-3
 returns-3 c =
     let k = c .before .before .before .before in
     let p = k .before .before in
-    let g = p .before .before .before .before .args in
-    there (g .header .«region_count») (now (g .bytes)) (g .region .kind) (p .before .if1 .left) (k .plane .given .0 .0) (sym (k .plane .given .1) ∙ p .plane-of .ensures) (c .if2 .left)
+    let g = p .before .before .before .before .before .args in
+    there (g .header .«region_count») (now (g .bytes)) (g .region .kind) (omega (arith, p .before .if1 .left, p .before .before .header-length .ensures)) (k .plane .given .0 .0) (sym (k .plane .given .1) ∙ p .plane-of .ensures) (c .if2 .left)
 
 returns-4 : tie.Need-returns-4
 returns-4 c =
     let p = c .before .before in
-    let g = p .before .before .before .before .args in
+    let g = p .before .before .before .before .before .args in
     let n = g .header .«region_count» in
     let x = now (g .bytes) in
-    sym (ecc-none n x (g .region .kind) (p .before .if1 .left) (found-none (firstThat (planeFor (g .region .kind)) (directoryOf n x)) (sym (c .enum-told .given .1) ∙ p .plane-of .ensures)))
+    sym (ecc-none n x (g .region .kind) (omega (arith, p .before .if1 .left, p .before .before .header-length .ensures)) (found-none (firstThat (planeFor (g .region .kind)) (directoryOf n x)) (sym (c .enum-told .given .1) ∙ p .plane-of .ensures)))
 
 pub ecc-for-spec : {M : Type 1} → statement M
 ecc-for-spec =
     tie.close
     (tie.spec
     (λ c. search needs)
-    (λ c. search needs)
-    (λ c. search needs)
-    returns
     (λ c κs. search needs)
+    returns
+    (λ c κs. omega arith)
     (λ c. search needs)
     (λ c. search needs)
     (λ c. search needs)

@@ -31,8 +31,8 @@ returns c =
     let x = now (g .bytes) in
     ap Found (c .voted-region .ensures)
     ∙ ap foundAs (sym (sym (a .loop .inv .1) ∙ first-here (directoryOf (g .n) x) (a .loop .i) (entryIn (g .n) x (a .loop .i)) (walk (g .n) x (a .loop .i) (omega arith)) (planeFor (g .kind))
-    (plane-test (g .n) x (a .loop .i) (g .kind) (v .before .before .voted-u16 .result) (v .before .voted-u162 .result) (v .covers-kind .result)
-    (v .before .before .voted-u16 .ensures) (v .before .voted-u162 .ensures) (v .covers-kind .ensures) ∙ c .before .if1 .taken)))
+    (plane-test (g .n) x (a .loop .i) (g .kind) (v .before .before .entry-u16 .result) (v .before .entry-u162 .result) (v .covers-kind .result)
+    (v .before .before .entry-u16 .ensures) (v .before .entry-u162 .ensures) (v .covers-kind .ensures) ∙ c .before .if1 .taken)))
 
 loop-again : tie.Need-loop-again Inv-loop μ-loop
 loop-again c =
@@ -42,8 +42,8 @@ loop-again c =
     let x = now (g .bytes) in (
       omega arith,
       first-next (directoryOf (g .n) x) (a .loop .i) (entryIn (g .n) x (a .loop .i)) (walk (g .n) x (a .loop .i) (omega arith)) (planeFor (g .kind))
-          (plane-test (g .n) x (a .loop .i) (g .kind) (v .before .before .voted-u16 .result) (v .before .voted-u162 .result) (v .covers-kind .result)
-          (v .before .before .voted-u16 .ensures) (v .before .voted-u162 .ensures) (v .covers-kind .ensures) ∙ c .if1 .left) ∙ a .loop .inv .1,
+          (plane-test (g .n) x (a .loop .i) (g .kind) (v .before .before .entry-u16 .result) (v .before .entry-u162 .result) (v .covers-kind .result)
+          (v .before .before .entry-u16 .ensures) (v .before .entry-u162 .ensures) (v .covers-kind .ensures) ∙ c .if1 .left) ∙ a .loop .inv .1,
     )
 
 returns-2 : tie.Need-returns-2 Inv-loop μ-loop
@@ -59,13 +59,7 @@ plane-of-spec =
     Inv-loop
     μ-loop
     loop-holds
-    (λ c. omega arith)
-    (λ c. omega arith)
-    (λ c. omega arith)
     (λ c κs. omega arith)
-    (λ c. omega arith)
-    (λ c. omega arith)
-    (λ c. omega arith)
     (λ c κs. omega arith)
     (λ c κs. omega arith)
     (λ c κs. omega arith)

@@ -7,7 +7,7 @@ use lib.ListN.{length, drop, length-take}
 use mathlib.Core.List.{List}
 use Rattle.model.specs.Writer.{regions}
 use Rattle.writer.specs.Answers.{Answered}
-use Rattle.writer.specs.Kept.{rowsOf, Low, keptRows, Kept, sizesVerdict}
+use Rattle.plan.specs.Kept.{rowsOf, Low, keptRows, Kept, sizesVerdict}
 use Rattle.writer.proofs.AnswerLaw.{rows-refused, rows-many, rows-few}
 use borrow.Author.Needs.{needs}
 use Rattle.writer.proofs.image.write_plan.Statement.{statement}

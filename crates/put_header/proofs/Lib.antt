@@ -1,0 +1,3 @@
+pub mod EntriesLaw
+pub mod OneAnswer
+pub mod PrologueLaw
