@@ -48,6 +48,13 @@ target/bin/%: $(PROVED)
 	rt check $*
 	touch $@
 
+# The kit's C, for files and arguments, lies beside the kit's documents.
+KIT = $(dir $(shell rt doc))..
+
+bin/kw: host/kw.c target/staticlib/libcommand.a
+	mkdir -p bin
+	$(CC_STRICT) -O2 host/kw.c target/staticlib/libcommand.a $(KIT)/lib/libos_c.a -o $@
+
 host/build/sample.kw: host/build/make_image
 	host/build/make_image >$@
 

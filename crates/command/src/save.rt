@@ -1,6 +1,5 @@
 // A file that is written: beside the one that it replaces, synced and renamed over it.
 ghost use mathlib.Core.Path.{_≡_};
-ghost use Prim.Native.Nat.{_≤_};
 ghost use lib.ListN.{length};
 ghost use Rattle.io.specs.Counts.{Counts};
 ghost use Rattle.libc.specs.Io.{Ended};
@@ -8,18 +7,22 @@ use filestat::FileKind;
 
 const MOST_LINKS: usize = 40;
 
-const LONGEST_NAME: usize = 4096;
-
 const LAST: usize = 4095;
 
-// A name as the system takes it: with a 0 behind it. One that is too long is cut, and leads nowhere: it is no link.
+fn put_path(name: &[u8], path: &mut [u8])
+    ensures { λ _. ⌜ length (now (path .exit)) ≡ length (now (path .entry)) ⌝ }
+{
+    if name.len() < path.len() {
+        put::put_bytes(path, 0, name);
+    }
+}
+
+// A name as the system takes it, with a 0 behind it. One that is too long is left out, and names no link.
 fn ended(name: &[u8]) -> [u8; 4096]
     ensures { λ r. ⌜ Ended r ⌝ }
 {
     let mut path = io::buffer();
-    if name.len() < LONGEST_NAME {
-        put::put_bytes(&mut path, 0, name);
-    }
+    put_path(name, &mut path);
     path[LAST] = 0;
     path
 }
@@ -33,17 +36,17 @@ fn link_text(path: &[u8], link: &mut [u8]) -> usize
     io::count(got, link)
 }
 
-fn copied(name: &[u8], target: &mut [u8; 8192]) -> usize
+fn copied(name: &[u8], target: &mut [u8]) -> usize
     ensures { λ r. ⌜ Counts r (now (target .exit)) ⌝ }
 {
-    if name.len() > 8192 {
+    if name.len() > target.len() {
         return 0;
     }
     put::put_bytes(target, 0, name)
 }
 
 // The name at the start of target, or where it leads if it is a link's.
-fn follow(n: usize, target: &mut [u8; 8192]) -> usize
+fn follow(n: usize, target: &mut [u8]) -> usize
     requires { ⌜ Counts n (now target) ⌝ }
     ensures { λ r. ⌜ Counts r (now (target .exit)) ⌝ }
 {
@@ -58,7 +61,7 @@ fn follow(n: usize, target: &mut [u8; 8192]) -> usize
 }
 
 // The file that a name leads to through links, put into target.
-fn resolved(name: &[u8], target: &mut [u8; 8192]) -> usize
+fn resolved(name: &[u8], target: &mut [u8]) -> usize
     ensures { λ r. ⌜ Counts r (now (target .exit)) ⌝ }
 {
     let mut n = copied(name, target);
@@ -107,7 +110,11 @@ fn sync(folder: &[u8]) {
 fn replace(name: &[u8], target: &[u8], about: FileKind, image: &[u8]) -> bool {
     let mut beside = [0u8; 8192];
     let n = arguments::temporary(target, &mut beside);
-    let file = os::create_temp(&mut beside[..n]);
+    replace_by(name, &mut beside[..n], target, about, image)
+}
+
+fn replace_by(name: &[u8], beside: &mut [u8], target: &[u8], about: FileKind, image: &[u8]) -> bool {
+    let file = os::create_temp(beside);
     if file < 0 {
         crate::file::fail(name);
         return false;
@@ -117,7 +124,7 @@ fn replace(name: &[u8], target: &[u8], about: FileKind, image: &[u8]) -> bool {
         crate::file::fail(name);
     }
     libc::close(file);
-    finish(name, &beside[..n], target, filled)
+    finish(name, beside, target, filled)
 }
 
 fn finish(name: &[u8], beside: &[u8], target: &[u8], filled: bool) -> bool {
