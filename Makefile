@@ -1,12 +1,13 @@
 # keleusma-wire in Rattle
 #
-#   make            prove every crate; build report, scrub, libkw.a and a sample image
+#   make            prove every crate; build bin/kw, report, scrub, libkw.a and a sample image
 #   make demo       damage the sample, look at it, mend it, and see that it is as it was
 #   make test       the gate: prove all from nothing, compare with the Rust, run everything
 #   make compare    run ours and the Rust on the same inputs (SEED=N for other random ones)
 #   make soak       the same with a hundred times the random inputs and a seed of its own
 #   make replay     hold ours against the recorded answers; needs no Rust
 #   make programs   report and scrub on every case of tests/answers/programs, and on bad files
+#   make command    bin/kw on every such case, and on files, links and folders of every kind
 #   make api        the C example on sample images, installed and not; the stack that a call takes
 #   make bench      time ours beside the Rust
 #   make record     make tests/answers anew from the Rust
@@ -21,7 +22,7 @@
 MAKEFLAGS += --no-print-directory
 .NOTPARALLEL:
 .DELETE_ON_ERROR:
-.PHONY: all archives test demo compare soak replay programs api bench record recorded install clean help
+.PHONY: all archives test demo compare soak replay programs command api bench record recorded install clean help
 
 ifeq ($(strip $(KW_ORACLE)),)
 KW_ORACLE = ../shared/docs/src
@@ -36,7 +37,7 @@ PROVED = crates.txt $(shell find crates -name '*.rt' -o -name '*.antt')
 
 all:
 	rt check
-	$(MAKE) archives $(PROGRAMS) host/build/sample.kw
+	$(MAKE) archives $(PROGRAMS) bin/kw host/build/sample.kw
 
 archives: $(ARCHIVES)
 
@@ -77,6 +78,9 @@ replay: host/build/replay
 programs: $(PROGRAMS)
 	sh tests/programs.sh target/bin
 
+command: bin/kw
+	sh tests/command.sh bin/kw
+
 api: host/build/firmware host/build/make_image host/build/stack host/build/replay
 	sh tests/api.sh $(KW_LIB)
 
@@ -106,7 +110,7 @@ install: $(KW_LIB) $(PROGRAMS)
 	install -m 644 docs/man/kw.3 $(DESTDIR)$(PREFIX)/share/man/man3
 
 clean:
-	rm -rf target host/build
+	rm -rf target host/build bin
 
 help:
 	@sed -n 's/^#   //p' Makefile
