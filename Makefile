@@ -1,6 +1,6 @@
 # keleusma-wire in Rattle
 #
-#   make            prove every crate; build report, scrub, libkw.a, libkw.so.0 and a sample image
+#   make            prove every crate; build bin/kw, report, scrub, libkw.a, libkw.so.0 and a sample image
 #   make demo       damage the sample, look at it, mend it, and see that it is as it was
 #   make test       the gate: prove all from nothing, compare with the Rust, run everything
 #   make check      the same
@@ -8,6 +8,7 @@
 #   make soak       the same with a hundred times the random inputs and a seed of its own
 #   make replay     hold ours against the recorded answers; needs no Rust
 #   make programs   report and scrub on every case of tests/answers/programs, and on bad files
+#   make command    bin/kw on every such case, and on files, links and folders of every kind
 #   make api        the C and Python examples on sample images, installed and not; the stack that a call takes
 #   make bench      time ours beside the Rust
 #   make record     make tests/answers anew from the Rust
@@ -24,7 +25,7 @@
 MAKEFLAGS += --no-print-directory
 .NOTPARALLEL:
 .DELETE_ON_ERROR:
-.PHONY: all archives test check demo compare soak replay programs api bench record recorded install uninstall clean help
+.PHONY: all archives test check demo compare soak replay programs command api bench record recorded install uninstall clean help
 
 ifeq ($(strip $(KW_ORACLE)),)
 KW_ORACLE = ../shared/docs/src
@@ -37,16 +38,13 @@ PROGRAMS = target/bin/report target/bin/scrub
 ARCHIVES = target/staticlib/libkw_test.a target/staticlib/libkw.a
 PROVED = crates.txt $(shell find crates -name '*.rt' -o -name '*.antt')
 
-# The command, where its source is there.
-COMMAND = $(if $(wildcard host/kw.c),bin/kw)
-
 # The library's version, and its functions, are those of kw.h.
 VERSION_OF = $(shell sed -n 's/^.define KW_LIBRARY_VERSION_$(1) //p' include/kw.h)
 SONAME = libkw.so.$(call VERSION_OF,MAJOR)
 VERSION = $(call VERSION_OF,MAJOR).$(call VERSION_OF,MINOR).$(call VERSION_OF,PATCH)
 FUNCTIONS = $(shell sed -n 's/^[a-z].*[ *]\(kw_[a-z_]*\)[()].*/\1/p' include/kw.h)
 
-USED = $(strip target/staticlib/libkw.a host/build/$(SONAME) $(PROGRAMS) $(COMMAND) host/build/sample.kw)
+USED = $(strip target/staticlib/libkw.a host/build/$(SONAME) $(PROGRAMS) bin/kw host/build/sample.kw)
 
 all:
 	@sh host/prove.sh check
@@ -63,6 +61,13 @@ target/staticlib/lib%.a: $(PROVED)
 target/bin/%: $(PROVED)
 	sh host/prove.sh check $*
 	touch $@
+
+# The kit's C, for files and arguments, lies beside the kit's documents.
+KIT = $(dir $(shell rt doc))..
+
+bin/kw: host/kw.c target/staticlib/libcommand.a
+	mkdir -p bin
+	$(CC_STRICT) -O2 host/kw.c target/staticlib/libcommand.a $(KIT)/lib/libos_c.a -o $@
 
 host/build/sample.kw: host/build/make_image
 	host/build/make_image >$@
@@ -85,6 +90,9 @@ replay: host/build/replay
 
 programs: $(PROGRAMS)
 	sh tests/programs.sh target/bin
+
+command: bin/kw
+	sh tests/command.sh bin/kw
 
 api: host/build/firmware host/build/make_image host/build/stack host/build/replay host/build/$(SONAME)
 	sh tests/api.sh $(KW_LIB) host/build/$(SONAME)
@@ -120,9 +128,9 @@ INSTALLED = $(addprefix $(bindir)/,kw kw-report kw-scrub) $(includedir)/kw.h \
 PAGES = $(wildcard docs/man/kw*.1)
 PLACES = @prefix@|$(prefix) @includedir@|$(includedir) @libdir@|$(libdir) @version@|$(VERSION)
 
-install: $(KW_LIB) host/build/$(SONAME) $(PROGRAMS) $(COMMAND)
+install: $(KW_LIB) host/build/$(SONAME) $(PROGRAMS) bin/kw
 	install -d $(sort $(dir $(addprefix $(DESTDIR),$(INSTALLED))))
-	$(if $(COMMAND),install -m 755 $(COMMAND) $(DESTDIR)$(bindir)/kw)
+	install -m 755 bin/kw $(DESTDIR)$(bindir)/kw
 	install -m 755 target/bin/report $(DESTDIR)$(bindir)/kw-report
 	install -m 755 target/bin/scrub $(DESTDIR)$(bindir)/kw-scrub
 	install -m 644 include/kw.h $(DESTDIR)$(includedir)/kw.h
@@ -138,7 +146,7 @@ uninstall:
 	rm -f $(addprefix $(DESTDIR),$(INSTALLED))
 
 clean:
-	rm -rf target host/build
+	rm -rf target host/build bin
 
 help:
 	@sed -n 's/^#   //p' Makefile

@@ -1,18 +1,18 @@
--- `stdin::read_input` meets its contract. The invariant: what is read lies within the buffer, which stays as long as it was. Assumes nothing.
+-- `stdin::read_from` meets its contract. The invariant: what is read lies within the buffer, which stays as long as it was. Assumes nothing.
 use mathlib.Core.Path.{_≡_}
 use Prim.Native.Nat.{_-_, _≤_}
 use native.Mathlib.Omega.{arith}
 use borrow.Author.Needs.{needs}
 use lib.ListN.{length}
 use Rattle.io.proofs.Counting.{counts}
-use Rattle.stdin.proofs.read_input.Statement.{statement}
-use Rattle.stdin.proofs.read_input.Tie as tie
+use Rattle.stdin.proofs.read_from.Statement.{statement}
+use Rattle.stdin.proofs.read_from.Tie as tie
 
 abbrev Inv-loop : tie.InvT-loop
-Inv-loop buffer₀ n₀ buffer n = (n ≤ length buffer) × (length buffer ≡ length buffer₀)
+Inv-loop file buffer₀ n₀ buffer n = (n ≤ length buffer) × (length buffer ≡ length buffer₀)
 
 abbrev μ-loop : tie.MeasureT-loop
-μ-loop buffer₀ n₀ buffer n = length buffer - n
+μ-loop file buffer₀ n₀ buffer n = length buffer - n
 
 same-length-2 : tie.Need-same-length-2 Inv-loop μ-loop
 same-length-2 c = omega (arith, c .before .before .before .before .before .before .buffer .given)
@@ -20,8 +20,8 @@ same-length-2 c = omega (arith, c .before .before .before .before .before .befor
 loop-again : tie.Need-loop-again Inv-loop μ-loop
 loop-again c = (omega (arith, c .before .before .before .before .before .before .buffer .given, c .before .count .ensures .0 .0), omega (arith, c .before .before .before .before .before .before .buffer .given))
 
-pub read-input-spec : {M : Type 1} → statement M
-read-input-spec =
+pub read-from-spec : {M : Type 1} → statement M
+read-from-spec =
     tie.close
     (tie.spec
     Inv-loop
