@@ -1,11 +1,13 @@
 -- A codeword corrected, and a run of them. Assumes nothing.
 use mathlib.Core.Path.{_≡_, refl, sym, ap, _∙_}
 use mathlib.Core.Bool.{Bool, true, false, cond}
-use mathlib.Core.List.{List, []}
+use mathlib.Core.List.{List, [], _++_, append-assoc, append-nil}
 use Prim.Native.Nat.{ℕ, suc, _+_, _-_, _*_, _≤_, _<_}
+use native.Mathlib.Nat.{zero-add}
 use native.Mathlib.Omega.{arith}
-use lib.ListN.{set}
-use lib.Seq.{sets}
+use borrow.Rule.Slice.PartMut.{putMid, post-is}
+use lib.ListN.{length, take, drop, set, drop-of-length-le}
+use lib.Seq.{sets, sets-eq}
 use Rattle.model.specs.Bytes.{at, wordAt, leBytes}
 use Rattle.model.specs.Parity.{Class, clean, uncorrectable, checkOf, decode, Outcome, cleanWord, correctedWord, uncorrectableWord, outcome}
 use Rattle.model.specs.Scan.{Codeword, codewordsFrom, classAt}
@@ -13,6 +15,18 @@ use Rattle.scan.specs.Tally.{Totals, counted, withClasses}
 use Rattle.scan.proofs.TallyLaw.{count-next, count-none}
 use Rattle.scan.proofs.WordLaw.{class-clean, class-uncorrectable, class-flipped}
 use Rattle.correcting.specs.Correct.{storedAs, correctAt, correctAll, met}
+
+-- ---- a part that is written in full, and comes back
+
+pub stored-all : (x ys : List ℕ) → length x ≡ length ys → sets x 0 ys ≡ ys
+stored-all x ys e =
+    sets-eq ys x 0 (omega (arith, e)) ∙ ap (λ (z : List ℕ). ys ++ z) (ap (λ (n : ℕ). drop n x) (zero-add (length ys)) ∙ drop-of-length-le x {i = length ys} (omega (arith, e))) ∙ append-nil ys
+
+pub put-part : (x ys : List ℕ) (a b : ℕ) → a ≤ b → b ≤ length x → length ys ≡ b - a → putMid a (b - a) x ys ≡ sets x a ys
+put-part x ys a b h l e =
+    let n : a + length ys ≡ b = omega arith in
+    ap (λ (z : List ℕ). take a x ++ (ys ++ z)) (post-is a b x h ∙ ap (λ (k : ℕ). drop k x) (sym n))
+    ∙ sym (sets-eq ys x a (omega arith) ∙ append-assoc (take a x) ys (drop (a + length ys) x))
 
 -- ---- what a codeword is left as
 

@@ -4,7 +4,7 @@ ghost use mathlib.Core.Path.{_≡_};
 ghost use mathlib.Core.Bool.{cond};
 ghost use Prim.Native.Nat.{_+_, _*_, _^_, _<_, _≤_};
 ghost use lib.ListN.{length, set};
-ghost use Rattle.model.specs.Bytes.{at, wordAt};
+ghost use Rattle.model.specs.Bytes.{at, leBytes, wordAt};
 ghost use Rattle.model.specs.Parity.{checkOf, outcome};
 ghost use Rattle.model.specs.Scan.{codewordsIn};
 ghost use Rattle.model.proofs.ScanLaw.{anyOf};
@@ -25,6 +25,14 @@ use scan::add_word;
 use scan::protected_run_at;
 use scan::visit;
 use view::Header;
+
+// The eight bytes of a word, lent to be written.
+fn store_word(part: &mut [u8], word: u64)
+    requires { ⌜ length (now part) ≡ 8 ⌝ }
+    ensures { λ _. ⌜ now (part .exit) ≡ leBytes 8 word ⌝ }
+{
+    put_u64(part, 0, word);
+}
 
 // Stores the check byte of a word, if asked to.
 fn store_check(table: &CheckTable, bytes: &mut [u8], check: usize, word: u64, with_check: bool)
@@ -49,6 +57,7 @@ fn correct_word(
     ensures stores { λ r. ⌜ now (bytes .exit) ≡ correctAt «with_check» (record { word = word; check = check }) (now (bytes .entry)) ⌝ }
 {
     let start = 8 * word;
+    let end = start + 8;
     let data = u64_or_zero(bytes, start);
     let found = bytes[check];
     let expected = check_byte_with(table, data);
@@ -61,7 +70,7 @@ fn correct_word(
         WordStatus::Clean(_) => {}
         WordStatus::Corrected(fixed) => {
             store_check(table, bytes, check, fixed, with_check);
-            put_u64(bytes, start, fixed);
+            store_word(&mut bytes[start..end], fixed);
         }
         WordStatus::Uncorrectable => {}
     }

@@ -1,16 +1,18 @@
 -- `correcting::correct_word` meets its contract. Assumes nothing.
 use mathlib.Core.Path.{_≡_, sym, ap, _∙_}
 use mathlib.Core.List.{List}
-use Prim.Native.Nat.{ℕ, _*_}
+use Prim.Native.Nat.{ℕ, _+_, _-_, _*_}
 use native.Mathlib.Omega.{arith}
 use borrow.Author.Needs.{needs}
 use denote.Ref.{now}
 use lib.Seq.{sets}
+use borrow.Rule.Slice.PartMut.{putMid}
 use Rattle.model.specs.Bytes.{at, wordAt, leBytes}
 use Rattle.model.specs.Parity.{outcome}
+use Rattle.model.proofs.BytesLaw.{length-leBytes}
 use Rattle.ecc.specs.Answers.{asOutcome}
 use Rattle.scan.proofs.WordLaw.{matched-clean, decoded}
-use Rattle.correcting.proofs.CorrectLaw.{kept-clean, kept-uncorrectable, put-corrected}
+use Rattle.correcting.proofs.CorrectLaw.{put-part, kept-clean, kept-uncorrectable, put-corrected}
 use Rattle.correcting.proofs.correct_word.Statement.{statement}
 use Rattle.correcting.proofs.correct_word.Tie as tie
 
@@ -40,24 +42,35 @@ returns-2 c =
     let g = start d .args in
     (told d, kept-clean (g .with-check) (now (g .bytes)) (record { word = g .word; check = g .check }) _ (ap asOutcome (sym (c .enum-told .given .1)) ∙ told d))
 
-put-u64-requires : tie.Need-put-u64-requires
-put-u64-requires c κs =
-    let s = start (c .before .before .before .before .before .before .before .before) in
-    omega (arith, s .pre .0, c .before .before .bytes .given)
+part-store-word-end : tie.Need-part-store-word-end
+part-store-word-end c =
+    let s = start (c .before .before .before .before .before .before .before) in
+    omega (arith, s .pre .0, c .before .bytes .given)
+
+store-word-requires : tie.Need-store-word-requires
+store-word-requires c κs = search needs
 
 same-length-3 : tie.Need-same-length-3
 same-length-3 c = omega (arith, c .before .bytes2 .given, c .before .before .before .before .before .bytes .given)
 
 returns-3 : tie.Need-returns-3
 returns-3 c =
-    let w = c .before .before .put-u64 in
+    let w = c .before .before .store-word in
+    let l = c .before .before .before .before .before .bytes in
     let k = c .before .before .before .before .before .before .store-check in
     let t = c .before .before .before .before .before .before .before .before .before .status .given in
     let d = c .before .before .before .before .before .before .before .before .before .before .before in
-    let g = start d .args in
+    let s = start d in
+    let g = s .args in
     let v = t .0 .0 in
-    let e = ap asOutcome (sym (t .1)) ∙ told d in
-    (e, w .ensures .stored ∙ ap (λ (y : List ℕ). sets y (8 * g .word) (leBytes 8 v)) (k .ensures) ∙ put-corrected (g .with-check) (now (g .bytes)) (record { word = g .word; check = g .check }) v e)
+    let y = k .last .1 .0 in
+    let a = 8 * g .word in
+    let e = ap asOutcome (sym (t .1)) ∙ told d in (
+      e,
+      ap (putMid a (a + 8 - a) y) (w .ensures)
+          ∙ put-part y (leBytes 8 v) a (a + 8) (omega arith) (omega (arith, s .pre .0, l .given)) (length-leBytes 8 v ∙ omega arith)
+          ∙ ap (λ (z : List ℕ). sets z a (leBytes 8 v)) (k .ensures) ∙ put-corrected (g .with-check) (now (g .bytes)) (record { word = g .word; check = g .check }) v e,
+    )
 
 returns-4 : tie.Need-returns-4
 returns-4 c =
@@ -70,6 +83,7 @@ correct-word-spec =
     tie.close
     (tie.spec
     (λ c. search needs)
+    (λ c. search needs)
     (λ c κs. search needs)
     (λ c. search needs)
     (λ c κs. search needs)
@@ -79,7 +93,10 @@ correct-word-spec =
     (λ c. search needs)
     (λ c. search needs)
     (λ c κs. search needs)
-    put-u64-requires
+    (λ c. search needs)
+    (λ c. search needs)
+    part-store-word-end
+    store-word-requires
     (λ c. search needs)
     (λ c. search needs)
     returns-2
