@@ -1,17 +1,21 @@
 # keleusma-wire in Rattle
 #
-#   make            prove every crate; build report, scrub, libkw.a and a sample image
+#   make            prove every crate; build bin/kw, report, scrub, libkw.a, libkw.so.0 and a sample image
 #   make demo       damage the sample, look at it, mend it, and see that it is as it was
 #   make test       the gate: prove all from nothing, compare with the Rust, run everything
+#   make check      the same
 #   make compare    run ours and the Rust on the same inputs (SEED=N for other random ones)
 #   make soak       the same with a hundred times the random inputs and a seed of its own
 #   make replay     hold ours against the recorded answers; needs no Rust
 #   make programs   report and scrub on every case of tests/answers/programs, and on bad files
-#   make api        the C example on sample images, installed and not; the stack that a call takes
+#   make command    bin/kw on every such case, and on files, links and folders of every kind
+#   make api        the C and Python examples on sample images, installed and not; the stack that a call takes
 #   make bench      time ours beside the Rust
 #   make record     make tests/answers anew from the Rust
 #   make recorded   see that tests/answers is what 'make record' makes
-#   make install    programs, header, archive, kw.pc and man pages to PREFIX (/usr/local), below DESTDIR
+#   make install    programs, header, libraries, kw.pc and man pages to prefix (/usr/local), below DESTDIR;
+#                   PREFIX is another name for prefix, and bindir, libdir, includedir and mandir are GNU's
+#   make uninstall  remove what 'make install' with the same prefix and DESTDIR put there
 #   make clean      remove all that was built
 #
 #   KW_ORACLE=FOLDER   where the unchanged Rust is, if not in ../shared/docs/src
@@ -21,7 +25,7 @@
 MAKEFLAGS += --no-print-directory
 .NOTPARALLEL:
 .DELETE_ON_ERROR:
-.PHONY: all archives test demo compare soak replay programs api bench record recorded install clean help
+.PHONY: all archives test check demo compare soak replay programs command api bench record recorded install uninstall clean help
 
 ifeq ($(strip $(KW_ORACLE)),)
 KW_ORACLE = ../shared/docs/src
@@ -34,19 +38,36 @@ PROGRAMS = target/bin/report target/bin/scrub
 ARCHIVES = target/staticlib/libkw_test.a target/staticlib/libkw.a
 PROVED = crates.txt $(shell find crates -name '*.rt' -o -name '*.antt')
 
+# The library's version, and its functions, are those of kw.h.
+VERSION_OF = $(shell sed -n 's/^.define KW_LIBRARY_VERSION_$(1) //p' include/kw.h)
+SONAME = libkw.so.$(call VERSION_OF,MAJOR)
+VERSION = $(call VERSION_OF,MAJOR).$(call VERSION_OF,MINOR).$(call VERSION_OF,PATCH)
+FUNCTIONS = $(shell sed -n 's/^[a-z].*[ *]\(kw_[a-z_]*\)[()].*/\1/p' include/kw.h)
+
+USED = $(strip target/staticlib/libkw.a host/build/$(SONAME) $(PROGRAMS) bin/kw host/build/sample.kw)
+
 all:
-	rt check
-	$(MAKE) archives $(PROGRAMS) host/build/sample.kw
+	@sh host/prove.sh check
+	@echo "all crates are proved; now the libraries, the programs and a sample image"
+	@$(MAKE) -s $(USED)
+	@echo "built $(USED)"
 
 archives: $(ARCHIVES)
 
 target/staticlib/lib%.a: $(PROVED)
-	rt staticlib $*
+	sh host/prove.sh staticlib $*
 	test -s $@
 
 target/bin/%: $(PROVED)
-	rt check $*
+	sh host/prove.sh check $*
 	touch $@
+
+# The kit's C, for files and arguments, lies beside the kit's documents.
+KIT = $(dir $(shell rt doc))..
+
+bin/kw: host/kw.c target/staticlib/libcommand.a
+	mkdir -p bin
+	$(CC_STRICT) -O2 host/kw.c target/staticlib/libcommand.a $(KIT)/lib/libos_c.a -o $@
 
 host/build/sample.kw: host/build/make_image
 	host/build/make_image >$@
@@ -55,7 +76,7 @@ demo: $(PROGRAMS)
 	@$(MAKE) -s host/build/sample.kw
 	@sh host/example/demo.sh target/bin host/build/sample.kw
 
-test:
+test check:
 	@sh tests/gate.sh
 
 compare: host/build/compare
@@ -70,8 +91,11 @@ replay: host/build/replay
 programs: $(PROGRAMS)
 	sh tests/programs.sh target/bin
 
-api: host/build/firmware host/build/make_image host/build/stack host/build/replay
-	sh tests/api.sh $(KW_LIB)
+command: bin/kw
+	sh tests/command.sh bin/kw
+
+api: host/build/firmware host/build/make_image host/build/stack host/build/replay host/build/$(SONAME)
+	sh tests/api.sh $(KW_LIB) host/build/$(SONAME)
 
 bench: host/build/bench
 	host/build/bench
@@ -86,20 +110,43 @@ recorded: host/build/record
 	host/build/record host/build/answers
 	diff -r tests/answers host/build/answers
 
+# GNU's names for where things go; PREFIX is prefix.
 PREFIX = /usr/local
+prefix = $(PREFIX)
+exec_prefix = $(prefix)
+bindir = $(exec_prefix)/bin
+libdir = $(exec_prefix)/lib
+includedir = $(prefix)/include
+mandir = $(prefix)/share/man
 DESTDIR =
 
-install: $(KW_LIB) $(PROGRAMS)
-	install -d $(addprefix $(DESTDIR)$(PREFIX)/,bin include lib/pkgconfig share/man/man1 share/man/man3)
-	install -m 755 $(PROGRAMS) $(DESTDIR)$(PREFIX)/bin
-	install -m 644 include/kw.h $(DESTDIR)$(PREFIX)/include/kw.h
-	install -m 644 $(KW_LIB) $(DESTDIR)$(PREFIX)/lib/libkw.a
-	sed 's|@PREFIX@|$(PREFIX)|' include/kw.pc.in >$(DESTDIR)$(PREFIX)/lib/pkgconfig/kw.pc
-	install -m 644 docs/man/report.1 docs/man/scrub.1 $(DESTDIR)$(PREFIX)/share/man/man1
-	install -m 644 docs/man/kw.3 $(DESTDIR)$(PREFIX)/share/man/man3
+# Everything that is installed. The programs are not installed as report and scrub: scrub is a disk wiper.
+INSTALLED = $(addprefix $(bindir)/,kw kw-report kw-scrub) $(includedir)/kw.h \
+	$(addprefix $(libdir)/,libkw.a $(SONAME) libkw.so pkgconfig/kw.pc) \
+	$(addprefix $(mandir)/man1/,kw.1 kw-report.1 kw-scrub.1) \
+	$(addprefix $(mandir)/man3/,kw.3 $(FUNCTIONS:=.3))
+PAGES = $(wildcard docs/man/kw*.1)
+PLACES = @prefix@|$(prefix) @includedir@|$(includedir) @libdir@|$(libdir) @version@|$(VERSION)
+
+install: $(KW_LIB) host/build/$(SONAME) $(PROGRAMS) bin/kw
+	install -d $(sort $(dir $(addprefix $(DESTDIR),$(INSTALLED))))
+	install -m 755 bin/kw $(DESTDIR)$(bindir)/kw
+	install -m 755 target/bin/report $(DESTDIR)$(bindir)/kw-report
+	install -m 755 target/bin/scrub $(DESTDIR)$(bindir)/kw-scrub
+	install -m 644 include/kw.h $(DESTDIR)$(includedir)/kw.h
+	install -m 644 $(KW_LIB) $(DESTDIR)$(libdir)/libkw.a
+	install -m 755 host/build/$(SONAME) $(DESTDIR)$(libdir)/$(SONAME)
+	ln -sf $(SONAME) $(DESTDIR)$(libdir)/libkw.so
+	sed $(PLACES:%=-e 's|%|') include/kw.pc.in >$(DESTDIR)$(libdir)/pkgconfig/kw.pc
+	$(if $(PAGES),install -m 644 $(PAGES) $(DESTDIR)$(mandir)/man1)
+	install -m 644 docs/man/kw.3 $(DESTDIR)$(mandir)/man3
+	for name in $(FUNCTIONS); do echo .so man3/kw.3 >$(DESTDIR)$(mandir)/man3/$$name.3 || exit 1; done
+
+uninstall:
+	rm -f $(addprefix $(DESTDIR),$(INSTALLED))
 
 clean:
-	rm -rf target host/build
+	rm -rf target host/build bin
 
 help:
 	@sed -n 's/^#   //p' Makefile
@@ -116,7 +163,7 @@ WITH_OURS = -C link-arg=$(KW_TEST_LIB) -C link-arg=$(KW_LIB)
 OURS = $(KW_TEST_LIB) $(KW_LIB)
 
 # All built anew each time: it takes a second, and none is left over from another archive or Rust.
-BUILT = $(addprefix host/build/,libchecked.rlib libshipped.rlib compare record bench replay firmware make_image stack)
+BUILT = $(addprefix host/build/,libchecked.rlib libshipped.rlib compare record bench replay firmware make_image stack $(SONAME))
 .PHONY: $(BUILT)
 $(BUILT): | host/build
 
@@ -149,3 +196,8 @@ host/build/firmware host/build/make_image: host/build/%: $(KW_LIB)
 # The frame pointer says where a caller's frame stands.
 host/build/stack: $(OURS)
 	$(CC_STRICT) -O1 -fno-omit-frame-pointer host/stack/main.c $(OURS) -pthread -o $@
+
+# The archive as it is: its objects are position independent, and show the functions of kw.h alone.
+host/build/$(SONAME): $(KW_LIB)
+	gcc -shared -nostartfiles -Wl,-z,defs -Wl,-soname,$(SONAME) \
+		-Wl,--whole-archive $(KW_LIB) -Wl,--no-whole-archive -o $@

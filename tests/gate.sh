@@ -1,7 +1,7 @@
 #!/bin/sh
 # The gate, called by 'make test'. Every part runs, whatever became of the one before it. The last
 # line, 'N passed, M failed', counts what rt proved and refused, the cases compared, the lines
-# replayed, and the cases of the programs and of the C API. A part that fails, leaves no count or
+# replayed, and the cases of the programs, the command and the C API. A part that fails, leaves no count or
 # counts nothing is a failure; the exit status is 0 only if M is 0.
 set -u
 cd "$(dirname "$0")/.." || exit 2
@@ -51,7 +51,7 @@ count() { # FORM
 
 gate_began=$(date +%s)
 # Nothing that an earlier run built is trusted; rt ci does the same with the rest of target/.
-rm -rf host/build target/staticlib
+rm -rf host/build target/staticlib bin
 mkdir -p "$logs"
 
 part prove rt ci
@@ -74,6 +74,9 @@ count 'replayed ([0-9]+) lines, ([0-9]+) different'
 
 part programs make programs
 count 'programs ([0-9]+) passed, ([0-9]+) failed'
+
+part command make command
+count 'command ([0-9]+) passed, ([0-9]+) failed'
 
 part demo make demo
 must_end_well

@@ -31,10 +31,18 @@ _Static_assert(KW_TRUNCATED == 1 && KW_BAD_MAGIC == 2 && KW_FOREIGN_ENDIAN == 3 
 _Static_assert(KW_FLAG_ENCRYPTED == 1 && KW_FLAG_PROTECTED == 2 && KW_FLAG_OPTIONAL == 4 &&
                    KW_FLAG_PLANE == 8,
                "flags");
-_Static_assert(KW_VERSION == 2 && KW_WORD_BYTES == 8 && KW_MAX_REGIONS == 1024 &&
+_Static_assert(KW_FORMAT_VERSION == 2 && KW_WORD_BYTES == 8 && KW_MAX_REGIONS == 1024 &&
                    KW_HEADER_BYTES(KW_MAX_REGIONS) == 49200 && KW_MAX_HEADER_BYTES == 49200 &&
                    KW_MAX_IMAGE_BYTES == 8388608,
                "limits");
+_Static_assert(KW_DETAIL == 0 && KW_PARSE_REGIONS == 0 && KW_PARSE_SCRUB_WANTED == 1 &&
+                   KW_REGION_FOUND == 0 && KW_REGION_FIRST == 1 && KW_REGION_PAST == 2 &&
+                   KW_REGION_FLAGS == 3 && KW_REGION_AT_FOUND == 0 && KW_REGION_AT_KIND == 1 &&
+                   KW_REGION_AT_FLAGS == 2 && KW_REGION_AT_FIRST == 3 && KW_REGION_AT_PAST == 4 &&
+                   KW_REGION_AT_COVERS == 5 && KW_REPORT_GIVEN == 0 && KW_REPORT_WORDS == 1 &&
+                   KW_REPORT_CORRECTED == 2 && KW_REPORT_UNCORRECTABLE == 3 && KW_MEND_STORED == 4 &&
+                   KW_MEND_WHOLE == 5 && KW_WRITE_LENGTH == 0,
+               "places in an answer");
 
 enum { MOST_SLICES = 2, MOST_NUMBERS = 8, MOST_BYTES = 8, LONGEST_BYTES = 1 << 24, SHOWN = 10 };
 enum { MOST_TOLD = 1024, LONGEST_ANSWER = 4096 };
@@ -121,6 +129,8 @@ CALL(verify_region) {
 CALL(verify_all) { kwt_verify_all(SLICE(0), (uint16_t)in->n[0], out->n); }
 CALL(scrub) { kwt_scrub(SLICE(0), out->n); }
 CALL(kw_parse) { out->n[0] = kw_parse(SLICE(0), out->n + 1); }
+CALL(kw_region) { out->n[0] = kw_region(SLICE(0), (uint16_t)in->n[0], out->n + 1); }
+CALL(kw_region_at) { out->n[0] = kw_region_at(SLICE(0), (uint32_t)in->n[0], out->n + 1); }
 CALL(kw_scan) { out->n[0] = kw_scan(SLICE(0), out->n + 1); }
 CALL(kw_scrub) { out->n[0] = kw_scrub(SLICE(0), out->n + 1); }
 CALL(kw_mend) { out->n[0] = kw_mend(SLICE(0), out->n + 1); }
@@ -178,11 +188,13 @@ static const struct row rows[] = {
     {"verify_region", "b222442", 4, 0, call_verify_region},
     {"verify_all", "b2", 4, 0, call_verify_all},
     {"scrub", "w", 4, 0, call_scrub},
-    {"kw_parse", "b", 3, 0, call_kw_parse},
-    {"kw_scan", "b", 5, 0, call_kw_scan},
-    {"kw_scrub", "w", 5, 0, call_kw_scrub},
-    {"kw_mend", "w", 7, 0, call_kw_mend},
-    {"kw_write", "rbo", 2, 0, call_kw_write},
+    {"kw_parse", "b", 1 + KW_PARSE_NUMBERS, 0, call_kw_parse},
+    {"kw_region", "b2", 1 + KW_REGION_NUMBERS, 0, call_kw_region},
+    {"kw_region_at", "b4", 1 + KW_REGION_AT_NUMBERS, 0, call_kw_region_at},
+    {"kw_scan", "b", 1 + KW_REPORT_NUMBERS, 0, call_kw_scan},
+    {"kw_scrub", "w", 1 + KW_REPORT_NUMBERS, 0, call_kw_scrub},
+    {"kw_mend", "w", 1 + KW_MEND_NUMBERS, 0, call_kw_mend},
+    {"kw_write", "rbo", 1 + KW_WRITE_NUMBERS, 0, call_kw_write},
 };
 
 /* Reads a decimal number of at most `width` bytes; 0 if it isn't one. */

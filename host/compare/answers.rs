@@ -54,15 +54,49 @@ pub fn api_numbers([number, first, prologue, directory]: [u64; 4]) -> (u32, [u64
     (number as u32, [first, if number == 0 { prologue | directory } else { 0 }])
 }
 
-/// What libkw.a answers to a scan: a number, and the report's numbers or {detail, 0, 0, 0}.
-pub fn api_scan(parsed: &Result<WireView, WireError>) -> (u32, [u64; 4]) {
+/// What a call of libkw.a that refuses as parse does answers: a number, and the numbers of an accepted
+/// image or {detail, 0, ..}.
+pub fn api_answer<const N: usize>(
+    parsed: &Result<WireView, WireError>,
+    accepted: impl Fn(&WireView) -> [u64; N],
+) -> (u32, [u64; N]) {
     match parsed {
-        Ok(view) => (0, report_numbers(view.verify_all())),
+        Ok(view) => (0, accepted(view)),
         Err(error) => {
             let [number, detail] = refusal(error);
-            (number as u32, [detail, 0, 0, 0])
+            let mut answer = [0; N];
+            answer[0] = detail;
+            (number as u32, answer)
         }
     }
+}
+
+pub fn api_scan(parsed: &Result<WireView, WireError>) -> (u32, [u64; 4]) {
+    api_answer(parsed, |view| report_numbers(view.verify_all()))
+}
+
+/// {1, first byte, byte past the last, flags}, or zeros for nothing
+pub fn api_place(view: &WireView, found: Option<Region>) -> [u64; 4] {
+    found.map_or([0; 4], |region| {
+        let [first, past] = bounds(view, &region);
+        [1, first, past, region.flags.into()]
+    })
+}
+
+/// {1, kind, flags, first byte, byte past the last, covers}, or zeros for nothing
+pub fn api_entry(view: &WireView, found: Option<Region>) -> [u64; 6] {
+    found.map_or([0; 6], |region| {
+        let [first, past] = bounds(view, &region);
+        let [kind, flags, covers] = [region.kind, region.flags, region.covers].map(u64::from);
+        [1, kind, flags, first, past, covers]
+    })
+}
+
+/// Where the bytes stand that the Rust gives for a region.
+fn bounds(view: &WireView, region: &Region) -> [u64; 2] {
+    let part = view.region_bytes(region).expect("parse accepted the region");
+    let (first, past) = place_in(view.bytes(), part);
+    [first, past].map(|place| place as u64)
 }
 
 pub fn entry(region: Region) -> Entry {

@@ -6,6 +6,8 @@ use crate::ffi_reader::Guarded;
 mod c {
     extern "C" {
         pub fn kw_parse(image: *const u8, len: usize, answer: *mut u64) -> u32;
+        pub fn kw_region(image: *const u8, len: usize, kind: u16, answer: *mut u64) -> u32;
+        pub fn kw_region_at(image: *const u8, len: usize, index: u32, answer: *mut u64) -> u32;
         pub fn kw_scan(image: *const u8, len: usize, answer: *mut u64) -> u32;
         pub fn kw_scrub(image: *mut u8, len: usize, answer: *mut u64) -> u32;
         pub fn kw_mend(image: *mut u8, len: usize, answer: *mut u64) -> u32;
@@ -18,6 +20,22 @@ pub fn parse(image: &[u8]) -> (u32, [u64; 2]) {
     let mut number = 0;
     let answer = numbers(|answer| unsafe {
         number = c::kw_parse(image.as_ptr(), image.len(), answer);
+    });
+    (number, answer)
+}
+
+pub fn region(image: &[u8], kind: u16) -> (u32, [u64; 4]) {
+    let mut number = 0;
+    let answer = numbers(|answer| unsafe {
+        number = c::kw_region(image.as_ptr(), image.len(), kind, answer);
+    });
+    (number, answer)
+}
+
+pub fn region_at(image: &[u8], index: u32) -> (u32, [u64; 6]) {
+    let mut number = 0;
+    let answer = numbers(|answer| unsafe {
+        number = c::kw_region_at(image.as_ptr(), image.len(), index, answer);
     });
     (number, answer)
 }

@@ -20,6 +20,7 @@ mod mend;
 mod mending;
 mod model;
 mod plan;
+mod region;
 mod scalar;
 mod scan;
 mod scrub;

@@ -1,11 +1,11 @@
-//! Crate `repair`: mend's answer and every byte afterwards, beside mending.rs's reading of the page.
+//! Crate `mending`: mend's answer and every byte afterwards, beside mending.rs's reading of the page.
 
 use crate::images::{self, plain, plane, protected, sealed, FAMILIES};
 use crate::inputs::{hex, Entry, Random};
 use crate::mending;
 use crate::plan::{self, Row};
 use crate::tally::Group;
-use crate::{ffi_api as ours, Run};
+use crate::{ffi_api as ours, region, Run};
 
 pub fn compare(run: &mut Run) {
     let mut seen = Seen::default();
@@ -73,13 +73,15 @@ impl Seen {
     }
 }
 
-/// Mend, and mend again: the second time nothing is corrected and no byte moves.
+/// Mend, and mend again: the second time nothing is corrected and no byte moves. The C API's lookups on the
+/// image.
 fn same(group: &mut Group, seen: &mut Seen, bytes: &[u8]) {
     let read = mending::mend(bytes);
     let mended = ours::mend(bytes);
     seen.count(read.0, read.1);
     let input = || hex(&bytes[..bytes.len().min(2000)]);
     group.same(&mended, &read, || format!("kw_mend {}", input()));
+    region::same(group, bytes);
     if mended.0 == 0 {
         let (_, [report, words, _, beyond, _, whole], left) = mended;
         let settled = (0, [report, words, 0, beyond, 0, whole], left);

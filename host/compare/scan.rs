@@ -5,7 +5,7 @@ use crate::images::{self, plane, protected, FAMILIES};
 use crate::inputs::{hex, image, Entry, Random, RegionMaker};
 use crate::tally::Group;
 use crate::view::other_bytes;
-use crate::{ffi_api as api, ffi_reader as ours, model, Run};
+use crate::{ffi_api as api, ffi_reader as ours, model, region, Run};
 use keleusma_wire::WireView;
 
 pub fn compare(run: &mut Run) {
@@ -33,6 +33,7 @@ fn same(group: &mut Group, maker: &RegionMaker, random: &mut Random, bytes: &[u8
     let input = || hex(&bytes[..bytes.len().min(2000)]);
     let parsed = WireView::parse(bytes);
     group.same(api::scan(bytes), api_scan(&parsed), || format!("kw_scan {}", input()));
+    region::same(group, bytes);
     let Ok(view) = parsed else { return };
     let count = view.region_count();
     group.same(ours::verify_all(bytes, count), report_numbers(view.verify_all()), || {

@@ -1,10 +1,10 @@
-//! Crate `repair`: scrub's answer and every byte afterwards.
+//! Crate `scrubbing`: scrub's answer and every byte afterwards.
 
 use crate::answers::report_numbers;
 use crate::images::{self, FAMILIES};
 use crate::inputs::hex;
 use crate::tally::Group;
-use crate::{ffi_api as api, ffi_reader as ours, Run};
+use crate::{ffi_api as api, ffi_reader as ours, region, Run};
 use keleusma_wire::WireView;
 
 pub fn compare(run: &mut Run) {
@@ -47,7 +47,7 @@ impl Seen {
     }
 }
 
-/// Scrub through both archives.
+/// Scrub through both archives, and the C API's lookups on what it left.
 fn same(group: &mut Group, seen: &mut Seen, bytes: &[u8]) {
     let mut left = bytes.to_vec();
     let report = keleusma_wire::scrub(&mut left);
@@ -61,6 +61,7 @@ fn same(group: &mut Group, seen: &mut Seen, bytes: &[u8]) {
     let (number, answer, ours_left) = api::scrub(bytes);
     group
         .same((number, answer, &ours_left), (0, report, &left), || format!("kw_scrub {}", input()));
+    region::same(group, &left);
 }
 
 fn compare_4_march(run: &mut Run, seen: &mut Seen) {

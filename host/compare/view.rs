@@ -4,7 +4,7 @@ use crate::answers::{api_numbers, entry, entry_numbers, parse_numbers, place_in,
 use crate::images::{self, FAMILIES};
 use crate::inputs::{hex, Entry, RegionMaker};
 use crate::tally::Group;
-use crate::{ffi_api as api, ffi_reader as ours, model, Run};
+use crate::{ffi_api as api, ffi_reader as ours, model, region, Run};
 use keleusma_wire::WireView;
 
 pub fn compare(run: &mut Run) {
@@ -27,13 +27,15 @@ pub fn compare(run: &mut Run) {
     compare_other_bytes(run);
 }
 
-/// Parse, through both archives, and each lookup on what it accepts. Hands back the refusal's number.
+/// Parse and lookups through both archives; those of the archive for tests on what is accepted. Hands back
+/// the refusal's number.
 fn same(group: &mut Group, maker: &RegionMaker, bytes: &[u8]) -> usize {
     let input = || hex(&bytes[..bytes.len().min(2000)]);
     let rusts = WireView::parse(bytes);
     let parsed = parse_numbers(bytes, &rusts);
     group.same(ours::parse(bytes), parsed, || format!("parse {}", input()));
     group.same(api::parse(bytes), api_numbers(parsed), || format!("kw_parse {}", input()));
+    region::same(group, bytes);
     let Ok(view) = rusts else { return parsed[0] as usize };
     let count = view.region_count();
     let entries: Vec<Entry> = (0..count).filter_map(|i| view.region_at(i)).map(entry).collect();
@@ -58,7 +60,7 @@ fn same(group: &mut Group, maker: &RegionMaker, bytes: &[u8]) -> usize {
 }
 
 /// The first, the last, the next two and the largest, or all of a short directory.
-fn indices(count: u16) -> Vec<u16> {
+pub fn indices(count: u16) -> Vec<u16> {
     let mut all: Vec<u16> = (0..count.min(9)).collect();
     all.extend([count.wrapping_sub(1), count, count.saturating_add(1), u16::MAX]);
     all.dedup();

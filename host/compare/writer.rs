@@ -4,7 +4,7 @@
 use crate::inputs::{hex, Random};
 use crate::plan::{self, Refusal, Row};
 use crate::tally::Group;
-use crate::Run;
+use crate::{region, Run};
 
 extern "C" {
     fn kw_write(
@@ -170,9 +170,12 @@ fn accepted(group: &mut Group, random: &mut Random, rows: &[Row]) {
     every_room(group, random, rows, &payload);
 }
 
-/// An output exactly full, one byte short, some bytes longer, and none at all.
+/// An output exactly full, one byte short, some bytes longer, and none at all; the C API's lookups on the
+/// image.
 fn every_room(group: &mut Group, random: &mut Random, rows: &[Row], payload: &[u8]) {
-    let full = plan::write(rows, payload, usize::MAX).map_or(48, |image| image.len());
+    let image = plan::write(rows, payload, usize::MAX);
+    image.iter().for_each(|image| region::same(group, image));
+    let full = image.map_or(48, |image| image.len());
     for room in [full, full - 1, full + 1, full + 77, 0] {
         let before = random.bytes(room);
         let page = plan::write(rows, payload, room);

@@ -24,15 +24,17 @@ static const kw_row plan[] = {
 
 int main(void) {
     static uint8_t payload[8 * WORDS], out[ROOM];
-    uint64_t answer[1];
+    uint64_t answer[KW_WRITE_NUMBERS];
     for (size_t i = 0; i < sizeof payload; i++) payload[i] = (uint8_t)(7 * i + 1);
     uint32_t number =
         kw_write(plan, sizeof plan / sizeof *plan, payload, sizeof payload, out, sizeof out, answer);
     if (number != KW_OK) {
-        fprintf(stderr, "make_image: refused (%" PRIu32 "), detail %" PRIu64 "\n", number, answer[0]);
+        fprintf(stderr, "make_image: refused, %s (%" PRIu32 "), detail %" PRIu64 "\n",
+                kw_refusal_name(number), number, answer[KW_DETAIL]);
         return EXIT_FAILURE;
     }
-    if (fwrite(out, 1, (size_t)answer[0], stdout) != answer[0] || fflush(stdout) != 0) {
+    size_t length = (size_t)answer[KW_WRITE_LENGTH];
+    if (fwrite(out, 1, length, stdout) != length || fflush(stdout) != 0) {
         perror("make_image");
         return EXIT_FAILURE;
     }

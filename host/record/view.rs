@@ -1,5 +1,6 @@
 use crate::answers::{
-    api_numbers, entry, entry_numbers, parse_numbers, part_numbers, place_in, place_numbers,
+    api_answer, api_entry, api_numbers, api_place, entry, entry_numbers, parse_numbers,
+    part_numbers, place_in, place_numbers,
 };
 use crate::image::{image_text, spaced};
 use crate::images::{self, plain, plane, protected};
@@ -25,12 +26,27 @@ pub fn lines() -> Vec<String> {
     lines
 }
 
-/// One line of kwt_parse, and one of kw_parse.
+/// One line of kwt_parse, and one of kw_parse; of a refused image one of each lookup of the C API.
 fn parse(lines: &mut Vec<String>, text: &str, bytes: &[u8]) {
     let numbers = parse_numbers(bytes, &WireView::parse(bytes));
     lines.push(format!("parse {text} -> {}", spaced(numbers)));
     let (number, answer) = api_numbers(numbers);
     lines.push(format!("kw_parse {text} -> {number} {}", spaced(answer)));
+    if number != 0 {
+        api_lookups(lines, text, bytes, 1, 0);
+    }
+}
+
+/// One line of kw_region, and one of kw_region_at.
+fn api_lookups(lines: &mut Vec<String>, text: &str, bytes: &[u8], kind: u16, index: u32) {
+    let parsed = WireView::parse(bytes);
+    let (number, answer) = api_answer(&parsed, |view| api_place(view, view.find_region(kind)));
+    lines.push(format!("kw_region {text} {kind} -> {number} {}", spaced(answer)));
+    let (number, answer) = api_answer(&parsed, |view| {
+        let found = u16::try_from(index).ok().and_then(|index| view.region_at(index));
+        api_entry(view, found)
+    });
+    lines.push(format!("kw_region_at {text} {index} -> {number} {}", spaced(answer)));
 }
 
 /// Around every boundary: 47 and 48 bytes, the header's end, the image's.
@@ -92,7 +108,8 @@ fn directories() -> Vec<Vec<Entry>> {
     all
 }
 
-/// Every index and the next, every kind and another; a plane that covers nothing, two for a kind.
+/// Every index and the next, every kind and another; a plane that covers nothing, two for a kind. Of the C
+/// API also an index that 16 bits don't hold.
 fn lookups(lines: &mut Vec<String>, bytes: &[u8]) {
     let view = WireView::parse(bytes).expect("a good image");
     let (text, count) = (image_text(bytes), view.region_count());
@@ -102,6 +119,9 @@ fn lookups(lines: &mut Vec<String>, bytes: &[u8]) {
     }
     let maker = RegionMaker::new();
     let kinds = (0..count).filter_map(|i| view.region_at(i)).map(|region| region.kind);
+    for (kind, index) in kinds.clone().chain([0, 0x7FFF]).zip((0..=count.into()).chain([1 << 16])) {
+        api_lookups(lines, &text, bytes, kind, index);
+    }
     for kind in kinds.chain([0]) {
         let found = entry_numbers(view.find_region(kind).map(entry));
         lines.push(format!("find_region {text} {count} {kind} -> {}", spaced(found)));

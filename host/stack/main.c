@@ -15,7 +15,7 @@ enum { ROWS = 512, WORDS = 3, STACK = 1 << 18 };
 enum { REGIONS = 2 * ROWS, FIRST = 6 + 6 * REGIONS, LEN = 8 * (FIRST + ROWS * (WORDS + 1)) };
 
 static uint8_t image[LEN], stack[STACK] __attribute__((aligned(4096)));
-static uint64_t answer[6];
+static uint64_t answer[KW_MEND_NUMBERS];
 static size_t len;
 
 static void put(size_t at, uint64_t value, size_t width) {
@@ -35,7 +35,7 @@ static void put_entry(size_t i, uint16_t kind, uint16_t flags, size_t offset, si
 static void make_image(void) {
     put(0, 0x4B415558, 4);
     put(4, 0xFEFF, 2);
-    put(6, KW_VERSION, 2);
+    put(6, KW_FORMAT_VERSION, 2);
     put(8, REGIONS, 2);
     put(12, kwt_crc32(image, 12), 4);
     for (size_t row = 0; row < ROWS; row++) {
@@ -57,12 +57,15 @@ static void make_image(void) {
 /* Where the frame stands that makes the call: what lies below is the callee's. */
 static uint8_t *caller;
 
-#define CALL(NAME) \
+#define CALL_WITH(NAME, ...) \
     static void call_##NAME(void) { \
         caller = __builtin_frame_address(0); \
-        kw_##NAME(image, len, answer); \
+        kw_##NAME(image, len, __VA_ARGS__); \
     }
+#define CALL(NAME) CALL_WITH(NAME, answer)
 CALL(parse)
+CALL_WITH(region, 0x8000 + ROWS - 1, answer) /* the last entry */
+CALL_WITH(region_at, REGIONS - 1, answer)
 CALL(scan)
 CALL(scrub)
 CALL(mend)
@@ -112,12 +115,14 @@ static int measure(const char *name, void (*call)(void), size_t bound) {
         size_t took = depth(call, turn < 4 ? 0xA5 : 0x5A);
         if (took > most) most = took;
     }
-    printf("%-9s %5zu bytes of stack, bound %zu\n", name, most, bound);
+    printf("%-12s %5zu bytes of stack, bound %zu\n", name, most, bound);
     return most > 0 && most <= bound;
 }
 
 int main(void) {
     int good = measure("kw_parse", call_parse, KW_PARSE_STACK);
+    good &= measure("kw_region", call_region, KW_REGION_STACK);
+    good &= measure("kw_region_at", call_region_at, KW_REGION_AT_STACK);
     good &= measure("kw_scan", call_scan, KW_SCAN_STACK);
     good &= measure("kw_scrub", call_scrub, KW_SCRUB_STACK);
     good &= measure("kw_mend", call_mend, KW_MEND_STACK);

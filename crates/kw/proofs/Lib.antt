@@ -1,2 +1,4 @@
 pub mod Told
+pub mod RegionsLaw
+pub mod Inside
 pub mod OneAnswer

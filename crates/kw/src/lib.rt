@@ -1,5 +1,7 @@
 // The C API: what firmware calls (include/kw.h). A `&[u8]` is a pointer and a length to C, a `&mut [u64; 4]` one pointer. Every number
 // of an answer is written at every call; nothing is allocated.
+mod regions;
+
 ghost use mathlib.Core.Path.{_≡_};
 ghost use Rattle.model.specs.Parse.{parse};
 ghost use Rattle.model.specs.Scan.{scan};
@@ -9,13 +11,13 @@ ghost use Rattle.model.specs.Writer as model;
 ghost use lib.ListN.{length};
 ghost use Rattle.plan.specs.Rows.{asPlan};
 ghost use Rattle.writer.specs.Answers.{asWritten, bytesAfter};
-ghost use Rattle.repair.specs.Answers.{leftBy};
+ghost use Rattle.mending.specs.Answers.{leftBy};
 ghost use Rattle.scan.specs.Answers.{asScan};
 ghost use Rattle.kw.specs.Writes.{numberIn, answerIn, writeNumber, writeAnswer};
 ghost use Rattle.kw.specs.Numbers.{refusalNumber, parseNumbers, scanNumbers, reportNumbers, mendingNumbers, mendNumber, mendNumbers};
+use mending::MendResult;
+use mending::Mending;
 use plan::Row;
-use repair::MendResult;
-use repair::Mending;
 use scan::ScanResult;
 use view::ParseResult;
 use writer::WriteResult;
@@ -78,7 +80,7 @@ pub extern "C" fn kw_scrub(image: &mut [u8], answer: &mut [u64; 4]) -> u32
     ensures answers { λ _. ⌜ now (answer .exit) ≡ reportNumbers (scrub (now (image .entry)) .report) ⌝ }
     ensures leaves { λ _. ⌜ now (image .exit) ≡ scrub (now (image .entry)) .image ⌝ }
 {
-    *answer = report_numbers(repair::scrub(image));
+    *answer = report_numbers(scrubbing::scrub(image));
     0
 }
 
@@ -100,7 +102,7 @@ pub extern "C" fn kw_mend(image: &mut [u8], answer: &mut [u64; 6]) -> u32
     ensures answers { λ _. ⌜ now (answer .exit) ≡ mendNumbers (mend (now (image .entry))) ⌝ }
     ensures leaves { λ _. ⌜ now (image .exit) ≡ leftBy (mend (now (image .entry))) (now (image .entry)) ⌝ }
 {
-    match repair::mend(image) {
+    match mending::mend(image) {
         MendResult::Mended(m) => {
             *answer = mending_numbers(m);
             0

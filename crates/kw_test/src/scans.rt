@@ -57,5 +57,5 @@ pub extern "C" fn kwt_scrub(bytes: &mut [u8], answer: &mut [u64; 4])
     ensures is { λ _. ⌜ now (answer .exit) ≡ scanAnswer (model.scrub (now (bytes .entry)) .report) ⌝ }
     ensures leaves { λ _. ⌜ now (bytes .exit) ≡ model.scrub (now (bytes .entry)) .image ⌝ }
 {
-    *answer = scan_numbers(repair::scrub(bytes));
+    *answer = scan_numbers(scrubbing::scrub(bytes));
 }

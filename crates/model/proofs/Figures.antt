@@ -18,7 +18,7 @@ use Rattle.model.specs.Parity.{columns, find, isOdd, classOf, checkOf, s
 use Rattle.model.specs.Scan.{planeOf, isProtected, visitOf, visitsOver, visits, codewordsFrom, wordsOf, codewordsIn, codewords, total, report, classAt, classesAt, scanOf, scan}
 use Rattle.model.specs.Scrub.{scrub, scrubFrom, scrubRegion, scrubVisits, scrubWords, scrubWord, Scrubbed}
 use Rattle.model.specs.Mend.{meets, meetsAny, inHeader, apartVerdict, mendVerdict, fixAt, fixAll, mendBytes, changesFrom, changes, changed, mend, MendAnswer, refusedMend, mended}
-use Rattle.model.specs.Programs.{text, digits, decimal, field, tooLong, tooLongLine, refusedLine, regionsLine, eccLine, storedLine, lines, reportText, scrubImage, scrubLine, scrubText}
+use Rattle.model.specs.Programs.{text, digits, decimal, field, tooLongLine, refusedLine, regionsLine, eccLine, storedLine, lines, look, mendWithin, reportText, scrubImage, scrubLine, scrubText}
 use Rattle.model.specs.Writer.{Row, rowEntries, planeEntry, planeEntries, rowWords, planesWords, planes, regions, planDirectory, entryBytes, entriesBytes, prologueStart, prologueBytes, checks, planeBytes, planesBytes, planImage, kindAmong, rowsVerdict, imageLength, planVerdict, write, image, refusedPlan}
 
 -- ---- what a figure computes with: a line `unfolding parsing` opens all that this one names
@@ -36,7 +36,7 @@ unfolding mending scrub scrubFrom scrubRegion nth scrubVisits scrubWords scrubWo
 scrubbing x = scrub x
 
 printing : List ℕ → List ℕ
-unfolding mending reportText scrubImage scrubText scrubLine lines tooLong tooLongLine refusedLine regionsLine eccLine storedLine field decimal digits text
+unfolding mending reportText scrubImage scrubText scrubLine look mendWithin lines tooLongLine refusedLine regionsLine eccLine storedLine field decimal digits text
 printing x = reportText x
 
 writing : List Row → List ℕ → List ℕ

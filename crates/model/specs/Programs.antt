@@ -33,9 +33,6 @@ field s n = text s ++ decimal n
 
 -- ---- the lines, without their line feeds
 
-unfoldable pub tooLong : List ℕ → Bool
-tooLong x = ltb 65536 (length x)
-
 unfoldable pub tooLongLine : List ℕ
 tooLongLine = text "too-long"
 
@@ -64,30 +61,52 @@ unfoldable pub lines : List (List ℕ) → List ℕ
 lines [] = []
 lines (l ∷ ls) = l ++ (lineFeed ++ lines ls)
 
+-- ---- what is found in an image that may have so many bytes
+
+pub data Found : Type 0 where
+  tooLong : Found
+  refusedImage : ℕ → ℕ → Found
+  -- the number of regions, whether a scrub is wanted, and the whole scan
+  image : ℕ → Bool → Option Report → Found
+
+abbrev pub foundIn : Parsed → Option Report → Found
+foundIn (accepted h) s = image (h .regions) (h .prologueDisagreed || h .directoryDisagreed) s
+foundIn (refused n d) s = refusedImage n d
+
+unfoldable pub look : ℕ → List ℕ → Found
+look most x = cond (ltb most (length x)) tooLong (foundIn (parse x) (scan x))
+
 -- ---- report: to standard output
 
-abbrev pub linesOf : Parsed → Option Report → List (List ℕ)
-linesOf (accepted h) s = regionsLine (h .regions) (h .prologueDisagreed || h .directoryDisagreed) ∷ eccLine s ∷ []
-linesOf (refused n d) s = refusedLine n d ∷ []
+abbrev pub reportLines : Found → List (List ℕ)
+reportLines tooLong = tooLongLine ∷ []
+reportLines (refusedImage n d) = refusedLine n d ∷ []
+reportLines (image n scrub s) = regionsLine n scrub ∷ eccLine s ∷ []
 
 unfoldable pub reportText : List ℕ → List ℕ
-reportText x = lines (cond (tooLong x) (tooLongLine ∷ []) (linesOf (parse x) (scan x)))
+reportText x = lines (reportLines (look 65536 x))
 
 -- ---- scrub: the image to standard output, or no byte; one line to standard error
 
-abbrev pub imageOut : MendAnswer → List ℕ
-imageOut (refusedMend n d) = []
-imageOut (mended y r stored whole) = y
+-- mend's answer, and none for an image that is too long
+unfoldable pub mendWithin : ℕ → List ℕ → Option MendAnswer
+mendWithin most x = cond (ltb most (length x)) none (some (mend x))
 
-abbrev pub lineOf : MendAnswer → List ℕ
-lineOf (refusedMend n d) = refusedLine n d
-lineOf (mended y r stored whole) = storedLine stored
+abbrev pub imageOut : Option MendAnswer → List ℕ
+imageOut none = []
+imageOut (some (refusedMend n d)) = []
+imageOut (some (mended y r stored whole)) = y
+
+abbrev pub lineOf : Option MendAnswer → List ℕ
+lineOf none = tooLongLine
+lineOf (some (refusedMend n d)) = refusedLine n d
+lineOf (some (mended y r stored whole)) = storedLine stored
 
 unfoldable pub scrubImage : List ℕ → List ℕ
-scrubImage x = cond (tooLong x) [] (imageOut (mend x))
+scrubImage x = imageOut (mendWithin 65536 x)
 
 unfoldable pub scrubLine : List ℕ → List ℕ
-scrubLine x = cond (tooLong x) tooLongLine (lineOf (mend x))
+scrubLine x = lineOf (mendWithin 65536 x)
 
 unfoldable pub scrubText : List ℕ → List ℕ
 scrubText x = lines (scrubLine x ∷ [])

@@ -14,6 +14,7 @@ ghost use Rattle.view.specs.Answers.{asHeader};
 ghost use Rattle.overlap.specs.Answers.{asPlacement, overlapAs};
 ghost use Rattle.overlap.specs.Spans.{lastWord, overlapsFrom, Spans};
 use error::Refusal;
+use layout::MAX_REGIONS;
 use layout::Region;
 use layout::header_length;
 use view::Header;
@@ -30,6 +31,9 @@ pub enum Placement {
     OnRegion { index: u16, earlier: u16 },
     Refused(Refusal),
 }
+
+// Entry j's first word in place j, and its last word in place MAX_REGIONS + j, so that each is voted once.
+type SpanTable = [u32; 2 * MAX_REGIONS];
 
 // What one entry lies on.
 enum Overlap {
@@ -52,12 +56,12 @@ fn check_regions(bytes: &[u8], header: Header) -> Placement
     requires { ⌜ header .«region_count» ≤ 1024 ⌝ }
     ensures { λ r. ⌜ asPlacement r ≡ model.placementFrom (asHeader header) 0 [] (entriesFor (header .«region_count») (now (bytes .entry))) ⌝ }
 {
-    let mut spans = [0u32; 2048];
+    let mut spans = [0u32; 2 * MAX_REGIONS];
     check_spans(bytes, header, &mut spans)
 }
 
-// With room for the first and the last word of each entry, so that each is voted once.
-fn check_spans(bytes: &[u8], header: Header, spans: &mut [u32; 2048]) -> Placement
+// Looks at each entry in turn, and notes its words in spans for those behind it.
+fn check_spans(bytes: &[u8], header: Header, spans: &mut SpanTable) -> Placement
     requires { ⌜ (header .«region_count» ≤ 1024) × (length (now spans) ≡ 2048) ⌝ }
     ensures { λ r. ⌜ asPlacement r ≡ model.placementFrom (asHeader header) 0 [] (entriesFor (header .«region_count») (now (bytes .entry))) ⌝ }
 {
@@ -80,7 +84,7 @@ fn check_spans(bytes: &[u8], header: Header, spans: &mut [u32; 2048]) -> Placeme
         }
         let j = i as usize;
         spans[j] = region.word_offset;
-        spans[1024 + j] = last_word(region);
+        spans[MAX_REGIONS + j] = last_word(region);
         high = max(end_word(region), high);
         i += 1;
     }
@@ -89,7 +93,7 @@ fn check_spans(bytes: &[u8], header: Header, spans: &mut [u32; 2048]) -> Placeme
 
 // What entry i of n lies on. The earlier ones end at word high at the latest, so an entry that starts there or later meets
 // none of them, and regions in ascending order are passed once.
-fn overlap_at(spans: &[u32; 2048], n: u16, i: u16, high: usize, region: Region) -> Overlap
+fn overlap_at(spans: &SpanTable, n: u16, i: u16, high: usize, region: Region) -> Overlap
     requires { ⌜ i < 1024 ⌝ }
     ensures { λ r. ⌜ ((es : List Entry) → Spans es i (now (spans .entry)) high
         → r ≡ overlapAs (model.inHeader n (asEntry region)) (model.meetsFrom 0 (asEntry region) (take i es))) ⌝ }
@@ -111,9 +115,9 @@ fn overlap_at(spans: &[u32; 2048], n: u16, i: u16, high: usize, region: Region) 
     lowest_overlap(spans, i, region.word_offset, last)
 }
 
-// The words from first to last meet one of the first n entries: spans[j] is entry j's first word, spans[1024 + j] its
-// last. It does not stop at the first hit: a loop that always runs to its end is compiled to wide compares.
-fn overlaps_any(spans: &[u32; 2048], n: u16, first: u32, last: u32) -> bool
+// Whether the words from first to last meet one of the first n entries. It does not stop at the first hit: a loop that
+// always runs to its end is compiled to wide compares.
+fn overlaps_any(spans: &SpanTable, n: u16, first: u32, last: u32) -> bool
     requires { ⌜ n ≤ 1024 ⌝ }
     ensures { λ r. ⌜ r ≡ isSome (overlapsFrom first last (now (spans .entry)) 0 n) ⌝ }
 {
@@ -121,21 +125,21 @@ fn overlaps_any(spans: &[u32; 2048], n: u16, first: u32, last: u32) -> bool
     let mut hits: u32 = 0;
     let mut j: usize = 0;
     while j < end {
-        hits += ranges_overlap(first, last, spans[j], spans[1024 + j]);
+        hits += ranges_overlap(first, last, spans[j], spans[MAX_REGIONS + j]);
         j += 1;
     }
     hits != 0
 }
 
-// The first of those entries.
-fn lowest_overlap(spans: &[u32; 2048], n: u16, first: u32, last: u32) -> Overlap
+// The lowest of the first n entries that the words from first to last meet.
+fn lowest_overlap(spans: &SpanTable, n: u16, first: u32, last: u32) -> Overlap
     requires { ⌜ n ≤ 1024 ⌝ }
     ensures { λ r. ⌜ r ≡ overlapAs false (overlapsFrom first last (now (spans .entry)) 0 n) ⌝ }
 {
     let mut j: u16 = 0;
     while j < n {
         let k = j as usize;
-        if ranges_overlap(first, last, spans[k], spans[1024 + k]) != 0 {
+        if ranges_overlap(first, last, spans[k], spans[MAX_REGIONS + k]) != 0 {
             return Overlap::Region(j);
         }
         j += 1;

@@ -8,6 +8,7 @@ ghost use Rattle.model.specs.Programs.{decimal};
 ghost use Rattle.put.specs.Put.{Put};
 use scalar::u16_bytes;
 use scalar::u32_bytes;
+use scalar::u64_bytes;
 
 pub fn put_bytes(out: &mut [u8], at: usize, bytes: &[u8]) -> usize
     requires { ⌜ at + length (now bytes) ≤ length (now out) ⌝ }
@@ -46,6 +47,14 @@ pub fn put_u32(out: &mut [u8], at: usize, v: u32) -> usize
     ensures { λ r. ⌜ Put (now (out .entry)) at (leBytes 4 v) r (now (out .exit)) ⌝ }
 {
     let bytes = u32_bytes(v);
+    put_bytes(out, at, &bytes)
+}
+
+pub fn put_u64(out: &mut [u8], at: usize, v: u64) -> usize
+    requires { ⌜ at + 8 ≤ length (now out) ⌝ }
+    ensures { λ r. ⌜ Put (now (out .entry)) at (leBytes 8 v) r (now (out .exit)) ⌝ }
+{
+    let bytes = u64_bytes(v);
     put_bytes(out, at, &bytes)
 }
 

@@ -8,12 +8,14 @@ use native.Mathlib.Numerals.{add-one}
 use native.Mathlib.Omega.{arith}
 use lib.ListN.{length, drop, drop-of-length-le}
 use Rattle.model.specs.Bytes.{given}
-use Rattle.model.specs.Layout.{Entry}
+use Rattle.model.specs.Refusals.{fine}
+use Rattle.model.specs.Layout.{Entry, count}
+use Rattle.model.specs.Parse.{parseVerdict}
 use Rattle.model.specs.Views.{entriesFor, nth}
-use Rattle.model.specs.Scan.{Report, report, Visit, visitsOver, Codeword, codewordsIn, classesAt, scanOf}
+use Rattle.model.specs.Scan.{Report, report, Visit, visitsOver, Codeword, codewordsIn, classesAt, scanOf, scanIn, visits, scan}
 use Rattle.model.specs.Scrub.{visitAt}
 use Rattle.model.proofs.ScanLaw.{plus-none, none-plus, plus-assoc, report-append, report-none, anyOf, any-append, codewords-append, scan-given, visits-from}
-use Rattle.view.proofs.EntriesForLaw.{length-entriesFor}
+use Rattle.view.proofs.EntriesForLaw.{length-entriesFor, entriesFor-is}
 use Rattle.scan.specs.declared.runs.ProtectedRun.{ProtectedRun}
 use Rattle.scan.specs.Runs.{codewordsOf, IsRun}
 use Rattle.scan.specs.Tally.{Totals, noTotals, marked, withClasses, withVisits, reportedBy}
@@ -57,3 +59,8 @@ pub all-said : (x : List ℕ) (vs : List Visit) (t : Totals) → t ≡ withVisit
 unfolding withVisits
 all-said x vs t e =
     ap reportedBy e ∙ ap (given (anyOf vs)) (none-plus (report (classesAt x (codewordsIn vs)))) ∙ sym (scan-given x vs)
+
+-- of an image that parse accepts, the entries are its directory
+pub scan-is : (x : List ℕ) → parseVerdict x ≡ fine → scanIn (count x) x ≡ scan x
+unfolding scanIn scan visits
+scan-is x h = ap (λ (es : List Entry). scanOf x (visitsOver (length x) es es)) (entriesFor-is x h)

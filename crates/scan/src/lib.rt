@@ -45,7 +45,7 @@ fn scan_run(table: &CheckTable, bytes: &[u8], run: ProtectedRun) -> EccReport
     plane_scan_with(table, &bytes[first..past], &bytes[from..to])
 }
 
-// The words of a run more.
+// Adds the words of a run to the tally.
 fn add_run(table: &CheckTable, bytes: &[u8], run: ProtectedRun, tally: Tally) -> Tally
     requires { ⌜ Fits (now bytes) run × IsCheckTable (now table) × Room (run .words) (asTotals tally .report) ⌝ }
     ensures is { λ r. ⌜ asTotals r ≡ withClasses (marked (asTotals tally) (run .visited)) (classesAt (now (bytes .entry)) (codewordsOf run)) ⌝ }

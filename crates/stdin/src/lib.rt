@@ -1,4 +1,4 @@
-// Standard input, for the programs. No contract can say what a call of the system reads; proved is that the function ends, and that
+// Standard input, for the programs, and any other open file, for the command. No contract can say what a call of the system reads; proved is that the function ends, and that
 // its count lies within the buffer.
 ghost use Rattle.io.specs.Counts.{Counts};
 
@@ -9,12 +9,12 @@ pub struct Input {
 }
 
 // Reads until the buffer is full or the input ends, however many bytes each read brings.
-pub fn read_input(buffer: &mut [u8]) -> Input
+pub fn read_from(file: i32, buffer: &mut [u8]) -> Input
     ensures { λ r. ⌜ Counts (r .length) (now (buffer .exit)) ⌝ }
 {
     let mut n: usize = 0;
     while n < buffer.len() {
-        let got = libc::read(libc::STDIN_FILENO, &mut buffer[n..]);
+        let got = libc::read(file, &mut buffer[n..]);
         if got < 0 {
             return Input {
                 length: n,
@@ -34,4 +34,10 @@ pub fn read_input(buffer: &mut [u8]) -> Input
         length: n,
         failed: false,
     }
+}
+
+pub fn read_input(buffer: &mut [u8]) -> Input
+    ensures { λ r. ⌜ Counts (r .length) (now (buffer .exit)) ⌝ }
+{
+    read_from(libc::STDIN_FILENO, buffer)
 }

@@ -1,18 +1,13 @@
--- Lines put one behind the other, a text that is put from the front on, and what is left of the image. Assumes nothing.
-use mathlib.Core.Path.{_≡_, sym, ap, _∙_}
-use mathlib.Core.Bool.{Bool, cond}
-use mathlib.Core.List.{List, [], _∷_, _++_}
-use Prim.Native.Nat.{ℕ, _≤_, _<_}
+-- Lines put one behind the other, and a text that is put from the front on. Assumes nothing.
+use mathlib.Core.Path.{_≡_, refl, ap, _∙_, subst}
+use mathlib.Core.List.{List, [], _∷_, _++_, append-assoc}
+use Prim.Native.Nat.{ℕ}
 use native.Mathlib.Omega.{arith}
 use lib.ListN.{length}
 use lib.Seq.{sets}
-use Rattle.model.specs.Mend.{mend}
 use Rattle.model.specs.Programs.{text, lineFeed, lines}
-use Rattle.model.proofs.ProgramsLaw.{too-long, looked-at}
-use Rattle.repair.specs.Answers.{leftBy}
 use Rattle.put.specs.Put.{Put}
 use Rattle.put.proofs.PutLaw.{put-two}
-use Rattle.text.specs.Left.{leftIn}
 
 -- a line, its line feed, and the lines behind it
 pub put-line : (o : List ℕ) (p : ℕ) (l : List ℕ) (ls : List (List ℕ)) {o₁ o₂ o₃ : List ℕ} {p₁ p₂ p₃ : ℕ}
@@ -30,10 +25,11 @@ text-put o a b {r} h e =
     let n : r ≡ length a = omega (arith, h .behind) in
     (n ∙ ap length e, h .stored ∙ ap (sets o 0) e)
 
-pub left-long : (x : List ℕ) → 65536 < length x → x ≡ leftIn x
-unfolding leftIn
-left-long x long = sym (ap (λ (t : Bool). cond t x (leftBy (mend x) x)) (too-long x long))
+-- a line with its line feed, and the lines behind it
+pub put-more : (o : List ℕ) (p : ℕ) (l : List ℕ) (ls : List (List ℕ)) {o₁ o₂ : List ℕ} {p₁ p₂ : ℕ} → Put o p (lines (l ∷ [])) p₁ o₁ → Put o₁ p₁ (lines ls) p₂ o₂ → Put o p (lines (l ∷ ls)) p₂ o₂
+unfolding lines text
+put-more o p l ls {o₂ = o₂} {p₂ = p₂} g h = subst (λ (x : List ℕ). Put o p x p₂ o₂) (append-assoc l lineFeed (lines ls)) (put-two o p (l ++ lineFeed) (lines ls) g h)
 
-pub left-short : (x : List ℕ) → length x ≤ 65536 → leftBy (mend x) x ≡ leftIn x
-unfolding leftIn
-left-short x short = sym (ap (λ (t : Bool). cond t x (leftBy (mend x) x)) (looked-at x short))
+-- nothing is put
+pub put-none : (o : List ℕ) (p : ℕ) → Put o p [] p o
+put-none o p = record { behind = omega arith; stored = refl; long = refl }

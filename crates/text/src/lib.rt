@@ -1,21 +1,25 @@
-// What the programs print, made in a buffer of the caller's. (FORMAT 11)
+// What the programs and the command find in an image, and what they print of it, made in a buffer of the caller's. (FORMAT 11, 14)
+mod found;
 mod line;
+mod told;
 
 ghost use mathlib.Core.Path.{_≡_};
 ghost use lib.ListN.{length, take};
 ghost use lib.Seq.{sets};
 ghost use Rattle.io.specs.Counts.{Counts};
 ghost use Rattle.model.specs.Programs.{reportText, scrubImage, scrubText};
-ghost use Rattle.text.specs.Left.{leftIn};
+ghost use Rattle.text.specs.Answers.{leftIn};
+pub use found::Findings;
+pub use found::Found;
+pub use found::Outcome;
+pub use found::look;
+pub use found::mend_within;
 use layout::MAX_INPUT_BYTES;
-use line::put_ecc;
-use line::put_line_feed;
-use line::put_refused;
-use line::put_regions;
-use line::put_stored;
-use line::put_too_long;
-use repair::MendResult;
-use view::ParseResult;
+pub use told::file_report;
+pub use told::mend_report;
+use told::put_outcome;
+use told::put_report;
+pub use told::uncorrectable_in;
 
 // The report on an image, from the start of out on; the number of its bytes.
 pub fn report(image: &[u8], out: &mut [u8; 128]) -> usize
@@ -23,23 +27,8 @@ pub fn report(image: &[u8], out: &mut [u8; 128]) -> usize
     ensures leaves { λ _. ⌜ now (out .exit) ≡ sets (now (out .entry)) 0 (reportText (now (image .entry))) ⌝ }
     ensures fits { λ r. ⌜ Counts r (now (out .exit)) ⌝ }
 {
-    if image.len() > MAX_INPUT_BYTES {
-        let end = put_too_long(out, 0);
-        return put_line_feed(out, end);
-    }
-    match view::parse(image) {
-        ParseResult::Refused(refusal) => {
-            let end = put_refused(out, 0, refusal);
-            put_line_feed(out, end)
-        }
-        ParseResult::Parsed(header) => {
-            let report = scan::verify_all(image, header);
-            let end = put_regions(out, 0, header.region_count, header.needs_scrub());
-            let second = put_line_feed(out, end);
-            let end = put_ecc(out, second, report);
-            put_line_feed(out, end)
-        }
-    }
+    let found = look(image, MAX_INPUT_BYTES);
+    put_report(out, b"", false, found)
 }
 
 // How many bytes go to standard output and to standard error.
@@ -56,27 +45,14 @@ pub fn scrub(image: &mut [u8], out: &mut [u8; 128]) -> Printed
     ensures writes { λ r. ⌜ (r .image ≡ length (scrubImage (now (image .entry)))) × (take (r .image) (now (image .exit)) ≡ scrubImage (now (image .entry))) ⌝ }
     ensures fits { λ r. ⌜ Counts (r .line) (now (out .exit)) × Counts (r .image) (now (image .exit)) ⌝ }
 {
-    if image.len() > MAX_INPUT_BYTES {
-        let end = put_too_long(out, 0);
-        return Printed {
-            image: 0,
-            line: put_line_feed(out, end),
-        };
-    }
-    match repair::mend(image) {
-        MendResult::Refused(refusal) => {
-            let end = put_refused(out, 0, refusal);
-            Printed {
-                image: 0,
-                line: put_line_feed(out, end),
-            }
-        }
-        MendResult::Mended(mending) => {
-            let end = put_stored(out, 0, mending.stored);
-            Printed {
-                image: image.len(),
-                line: put_line_feed(out, end),
-            }
-        }
+    let outcome = mend_within(image, MAX_INPUT_BYTES);
+    let line = put_outcome(out, outcome);
+    match outcome {
+        Outcome::TooLong => Printed { image: 0, line },
+        Outcome::Refused(_) => Printed { image: 0, line },
+        Outcome::Mended(_) => Printed {
+            image: image.len(),
+            line,
+        },
     }
 }

@@ -4,6 +4,7 @@ ghost use Prim.Native.Nat.{ℕ, _+_, _≤_};
 ghost use lib.ListN.{length};
 ghost use Rattle.put.specs.Put.{Put};
 ghost use Rattle.model.specs.Programs.{lineFeed, tooLongLine, refusedLine, regionsLine, eccLine, storedLine};
+ghost use Rattle.text.specs.Told.{uncorrectableLine};
 ghost use Rattle.ecc.specs.Answers.{asReport};
 ghost use Rattle.error.specs.Refused.{numberOf, detailOf};
 ghost use Rattle.scan.specs.Answers.{asScan};
@@ -36,6 +37,14 @@ pub(crate) fn put_stored(out: &mut [u8], at: usize, stored: usize) -> usize
     ensures few { λ r. ⌜ r ≤ at + 27 ⌝ }
 {
     put_field(out, at, b"stored ", stored as u64)
+}
+
+pub(crate) fn put_uncorrectable(out: &mut [u8], at: usize, words: usize) -> usize
+    requires { ⌜ at + 34 ≤ length (now out) ⌝ }
+    ensures is { λ r. ⌜ Put (now (out .entry)) at (uncorrectableLine words) r (now (out .exit)) ⌝ }
+    ensures few { λ r. ⌜ r ≤ at + 34 ⌝ }
+{
+    put_field(out, at, b"uncorrectable ", words as u64)
 }
 
 pub(crate) fn put_regions(out: &mut [u8], at: usize, region_count: u16, needs_scrub: bool) -> usize

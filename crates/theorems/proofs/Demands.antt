@@ -49,7 +49,7 @@ use Rattle.plan.specs.declared.rows.Row.{Row}
 use Rattle.plan.specs.Rows.{asPlan}
 use Rattle.writer.specs.declared.image.WriteResult.{WriteResult}
 use Rattle.writer.specs.declared.image.WriteResult.the-variants as write-says
-use Rattle.repair.specs.declared.mending.MendResult.the-variants as mend-says
+use Rattle.mending.specs.declared.MendResult.the-variants as mend-says
 use Rattle.theorems.specs.Damage.{Protected, bitsOff, Damaged, Touched, Uncorrectable, uncorrected, ReadsBack}
 use Rattle.theorems.specs.Runs.{Writes, MendsTo, ScrubsTo}
 use Rattle.theorems.specs.ScrubSteps.{Changes}

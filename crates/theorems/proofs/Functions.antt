@@ -1,4 +1,4 @@
--- The demands of the functions themselves: `writer::write`, `repair::mend`, `repair::scrub` and `text::scrub`, through their promises (specs/Runs.antt). `Bytes` is true of every lent slice of u8, by its type. Assumes nothing.
+-- The demands of the functions themselves: `writer::write`, `mending::mend`, `scrubbing::scrub` and `text::scrub`, through their promises (specs/Runs.antt). `Bytes` is true of every lent slice of u8, by its type. Assumes nothing.
 use mathlib.Core.Path.{_≡_, sym, ap, _∙_}
 use mathlib.Core.Bool.{true, false}
 use mathlib.Core.List.{List, [], _∷_}
@@ -16,17 +16,17 @@ use Rattle.text.specs.declared.Printed.{Printed}
 use lib.Seq.{sets}
 use Rattle.model.specs.Mend.{LaidApart, FirstMisplaced, MendRule, changed, whole, mended, mend}
 use Rattle.error.specs.declared.Refusal.the-variants.{OverlappingRegions}
-use Rattle.repair.proofs.OneAnswer.{one-mend}
+use Rattle.mending.proofs.OneAnswer.{one-mend}
 use Rattle.scan.specs.Answers.{asScan}
 use Rattle.scan.specs.declared.ScanResult.{ScanResult}
 use Rattle.scan.proofs.OneAnswer.{one-scan}
 use Rattle.plan.specs.Rows.{asPlan}
 use Rattle.plan.specs.declared.rows.Row.{Row}
 use Rattle.writer.specs.declared.image.WriteResult.the-variants.{Written}
-use Rattle.repair.specs.Answers.{asMended}
-use Rattle.repair.specs.declared.mending.Mending as answer
-use Rattle.repair.specs.declared.mending.MendResult.{MendResult}
-use Rattle.repair.specs.declared.mending.MendResult.the-variants as mend-says
+use Rattle.mending.specs.Answers.{asMended}
+use Rattle.mending.specs.declared.Mending as answer
+use Rattle.mending.specs.declared.MendResult.{MendResult}
+use Rattle.mending.specs.declared.MendResult.the-variants as mend-says
 use Rattle.theorems.specs.Damage.{Protected, Damaged, Touched, Uncorrectable, uncorrected, ReadsBack}
 use Rattle.theorems.specs.ScrubSteps.{Changes}
 use Rattle.theorems.specs.Runs.{Writes, MendsTo, ScrubsTo, Prints}

@@ -29,12 +29,12 @@ use Rattle.plan.specs.declared.rows.Row.{Row}
 use Rattle.writer.specs.declared.image.WriteResult.{WriteResult}
 use Rattle.writer.specs.declared.image.WriteResult.the-variants.{Written}
 use Rattle.writer.specs.declared.image.WriteResult.the-variants as write
-use Rattle.repair.proofs.mend.Reads as mend
-use Rattle.repair.proofs.scrub.Reads as scrub
-use Rattle.repair.specs.Answers.{asMended, leftBy}
-use Rattle.repair.specs.declared.mending.MendResult.{MendResult}
-use Rattle.repair.specs.declared.mending.MendResult.the-variants.{Mended, Refused}
-use Rattle.repair.specs.declared.mending.Mending.{Mending}
+use Rattle.mending.proofs.mend.Reads as mend
+use Rattle.scrubbing.proofs.scrub.Reads as scrub
+use Rattle.mending.specs.Answers.{asMended, leftBy}
+use Rattle.mending.specs.declared.MendResult.{MendResult}
+use Rattle.mending.specs.declared.MendResult.the-variants.{Mended, Refused}
+use Rattle.mending.specs.declared.Mending.{Mending}
 use Rattle.text.proofs.scrub.Reads as command
 use Rattle.theorems.proofs.ScrubTouches as steps
 use Rattle.theorems.specs.Runs.{Writes, MendsTo, ScrubsTo, Prints}

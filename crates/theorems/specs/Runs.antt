@@ -15,8 +15,8 @@ use Rattle.plan.specs.declared.rows.Row.{Row}
 use Rattle.writer.specs.declared.image.WriteResult.{WriteResult}
 use Rattle.scan.specs.Answers.{asScan}
 use Rattle.scan.specs.declared.ScanResult.{ScanResult}
-use Rattle.repair.specs.Answers.{asMended, leftBy}
-use Rattle.repair.specs.declared.mending.MendResult.{MendResult}
+use Rattle.mending.specs.Answers.{asMended, leftBy}
+use Rattle.mending.specs.declared.MendResult.{MendResult}
 use Rattle.text.specs.declared.Printed.{Printed}
 
 -- writer::write of these rows and this payload into `out`: it answered r and left `after`
@@ -24,12 +24,12 @@ pub record Writes (rows : List Row) (payload out : List ℕ) (r : WriteResult) (
   pub answer : asWritten r ≡ answerOf (write (asPlan rows) payload (length out))
   pub leaves : after ≡ bytesAfter (write (asPlan rows) payload (length out)) out
 
--- repair::mend of x: it answered r and left y
+-- mending::mend of x: it answered r and left y
 pub record MendsTo (x : List ℕ) (r : MendResult) (y : List ℕ) : Type 0 where
   pub answer : asMended r y ≡ mend x
   pub leaves : y ≡ leftBy (mend x) x
 
--- repair::scrub of x: it answered r and left y
+-- scrubbing::scrub of x: it answered r and left y
 pub record ScrubsTo (x : List ℕ) (r : ScanResult) (y : List ℕ) : Type 0 where
   pub answer : asScan r ≡ scrub x .report
   pub leaves : y ≡ scrub x .image

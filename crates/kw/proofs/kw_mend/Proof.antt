@@ -3,8 +3,8 @@ use mathlib.Core.Path.{sym, ap, _∙_}
 use mathlib.Core.List.{[], _∷_}
 use Prim.Native.Nat.{ℕ, _+_, _-_}
 use borrow.Author.Needs.{needs}
-use Rattle.repair.specs.Answers.{asMended}
-use Rattle.repair.specs.declared.mending.MendResult.{MendResult}
+use Rattle.mending.specs.Answers.{asMended}
+use Rattle.mending.specs.declared.MendResult.{MendResult}
 use Rattle.kw.specs.Numbers.{mendNumber, mendNumbers}
 use borrow.Author.Needs.{needs}
 use Rattle.kw.proofs.kw_mend.Statement.{statement}

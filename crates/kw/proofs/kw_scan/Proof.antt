@@ -10,7 +10,7 @@ use Rattle.model.specs.Scan.{scanIn, scan}
 use Rattle.view.specs.Answers.{asParsed}
 use Rattle.view.proofs.AnswersLaw.{parsed-fine, parsed-count}
 use Rattle.kw.specs.Numbers.{refusalNumber, reportNumbers, scanNumbers}
-use Rattle.repair.proofs.MendingLaw.{scan-is}
+use Rattle.scan.proofs.VisitLaw.{scan-is}
 use Rattle.kw.proofs.Told.{told}
 use borrow.Author.Needs.{needs}
 use Rattle.kw.proofs.kw_scan.Statement.{statement}

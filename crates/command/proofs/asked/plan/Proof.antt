@@ -1,0 +1,28 @@
+-- `command::asked::plan` ends: the arguments are fewer at each turn. Assumes nothing.
+use Prim.Native.Nat.{_-_}
+use native.Mathlib.Omega.{arith}
+use borrow.Author.Needs.{needs}
+use Rattle.command.proofs.asked.plan.Statement.{statement}
+use Rattle.command.proofs.asked.plan.Tie as tie
+
+abbrev Inv-loop : tie.InvT-loop
+Inv-loop count plan₀ i₀ plan i = Unit {0}
+
+abbrev μ-loop : tie.MeasureT-loop
+μ-loop count plan₀ i₀ plan i = count - i
+
+pub plan-spec : {M : Type 1} → statement M
+plan-spec =
+    tie.close
+    (tie.spec
+    Inv-loop
+    μ-loop
+    (λ c κs. search needs)
+    (λ c. tt)
+    (λ c κs. search needs)
+    (λ c κs. search needs)
+    (λ c. omega arith)
+    (λ c. omega arith)
+    (λ c. tt)
+    (λ c κs. search needs)
+    (λ c. tt))

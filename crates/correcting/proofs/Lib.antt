@@ -1,0 +1,2 @@
+pub mod CorrectLaw
+pub mod OneAnswer

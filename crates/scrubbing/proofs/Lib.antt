@@ -1,0 +1,2 @@
+pub mod ScrubbingLaw
+pub mod OneAnswer

@@ -1,0 +1,60 @@
+// What is found in an image that may have so many bytes, and what mend makes of one. (FORMAT 11)
+ghost use mathlib.Core.Path.{_≡_};
+ghost use Rattle.model.specs.Programs as model;
+ghost use Rattle.text.specs.Answers.{asFound, asOutcome, leftWithin};
+use error::Refusal;
+use mending::MendResult;
+use mending::Mending;
+use scan::ScanResult;
+use view::ParseResult;
+
+pub struct Findings {
+    pub regions: u16,
+    pub needs_scrub: bool,
+    pub report: ScanResult,
+}
+
+pub enum Found {
+    TooLong,
+    Refused(Refusal),
+    Image(Findings),
+}
+
+pub fn look(image: &[u8], most: usize) -> Found
+    ensures { λ r. ⌜ asFound r ≡ model.look most (now (image .entry)) ⌝ }
+{
+    if image.len() > most {
+        return Found::TooLong;
+    }
+    match view::parse(image) {
+        ParseResult::Refused(refusal) => Found::Refused(refusal),
+        ParseResult::Parsed(header) => {
+            let report = scan::verify_all(image, header);
+            Found::Image(Findings {
+                regions: header.region_count,
+                needs_scrub: header.needs_scrub(),
+                report,
+            })
+        }
+    }
+}
+
+pub enum Outcome {
+    TooLong,
+    Refused(Refusal),
+    Mended(Mending),
+}
+
+// Mends an image in place. One that is too long, or refused, is left as it was.
+pub fn mend_within(image: &mut [u8], most: usize) -> Outcome
+    ensures is { λ r. ⌜ asOutcome r (now (image .exit)) ≡ model.mendWithin most (now (image .entry)) ⌝ }
+    ensures leaves { λ _. ⌜ now (image .exit) ≡ leftWithin (model.mendWithin most (now (image .entry))) (now (image .entry)) ⌝ }
+{
+    if image.len() > most {
+        return Outcome::TooLong;
+    }
+    match mending::mend(image) {
+        MendResult::Refused(refusal) => Outcome::Refused(refusal),
+        MendResult::Mended(mending) => Outcome::Mended(mending),
+    }
+}

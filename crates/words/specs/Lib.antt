@@ -1,0 +1,3 @@
+pub mod Sentences
+pub mod Usages
+pub mod Verdicts
