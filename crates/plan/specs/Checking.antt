@@ -1,4 +1,4 @@
--- Steps of code, for private contracts; nothing that a reader must believe. One row after the other: what is checked, and what is kept. `plan` is 512 words of marks, a bit for each kind, and a word for each of the first 1024 rows. (FORMAT 9)
+-- Steps of code, for the contracts of building blocks that the writer calls; no statement of the demands speaks of them. One row after the other: what is checked, and what is kept. `plan` is 512 words of marks, a bit for each kind, and a word for each of the first 1024 rows. (FORMAT 9)
 use mathlib.Core.Bool.{Bool, _||_, cond}
 use mathlib.Core.List.{List, [], _∷_}
 use Prim.Native.Nat.{ℕ, suc, _+_, _*_, _/_, _%_, _^_}

@@ -1,4 +1,4 @@
--- Steps of code, for private contracts; nothing that a reader must believe. A plan's rows as the code keeps them: a number of 64 bits for each row. (FORMAT 9)
+-- Steps of code, for the contracts of building blocks that the writer calls; no statement of the demands speaks of them. A plan's rows as the code keeps them: a number of 64 bits for each row. (FORMAT 9)
 use mathlib.Core.Path.{_≡_}
 use mathlib.Core.Bool.{not}
 use mathlib.Core.List.{List, [], _∷_}

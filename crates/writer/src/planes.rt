@@ -14,6 +14,7 @@ use plan::words_of;
 use put::put_zeros;
 use scalar::u64_or_zero;
 
+// All planes, in the order of their rows.
 pub(crate) fn put_planes(out: &mut [u8], at: usize, rows: &[u64], payload: &[u8]) -> usize
     requires { ⌜ (at + length (planesBytes (rowsOf (now rows)) (now payload)) ≤ length (now out)) × (length (now payload) ≡ 8 * rowWords (rowsOf (now rows))) ⌝ }
     ensures { λ r. ⌜ Put (now (out .entry)) at (planesBytes (rowsOf (now (rows .entry))) (now (payload .entry))) r (now (out .exit)) ⌝ }

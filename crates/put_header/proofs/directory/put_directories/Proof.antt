@@ -14,6 +14,26 @@ use borrow.Author.Needs.{needs}
 use Rattle.put_header.proofs.directory.put_directories.Statement.{statement}
 use Rattle.put_header.proofs.directory.put_directories.Tie as tie
 
+put-directory-requires : tie.Need-put-directory-requires
+put-directory-requires c κs = let g = c .before .before .before in (omega (arith, g .pre .0), g .pre .1, g .pre .2, g .pre .3)
+
+put-directory-requires-2 : tie.Need-put-directory-requires-2
+put-directory-requires-2 c κs =
+    let d = c .before .before .before in
+    let g = d .before .before .before .before in
+    (omega (arith, g .pre .0, d .put-directory .ensures .behind, d .put-directory .ensures .long), g .pre .1, g .pre .2, g .pre .3)
+
+put-directory-requires-3 : tie.Need-put-directory-requires-3
+put-directory-requires-3 c κs =
+    let e = c .before .before .before in
+    let d = e .before .before .before .before in
+    let g = d .before .before .before .before in (
+      omega (arith, g .pre .0, d .put-directory .ensures .behind, d .put-directory .ensures .long, e .put-directory2 .ensures .behind, e .put-directory2 .ensures .long),
+      g .pre .1,
+      g .pre .2,
+      g .pre .3,
+    )
+
 returns : tie.Need-returns
 returns c =
     let g = c .before .before .before .before .before .before .before .before .before .before .before .before .before .before in
@@ -26,8 +46,8 @@ pub put-directories-spec : {M : Type 1} → statement M
 put-directories-spec =
     tie.close
     (tie.spec
-    (λ c κs. search needs)
-    (λ c κs. search needs)
-    (λ c κs. search needs)
+    put-directory-requires
+    put-directory-requires-2
+    put-directory-requires-3
     (λ c. search needs)
     returns)
