@@ -8,7 +8,7 @@ log=host/build/rt-$(echo "$*" | tr ' ' -).log
 mkdir -p host/build || exit 2
 crates=$(grep -c '^[a-z_]*:' crates.txt)
 
-# One line a crate: 'rt: scalar proved (14 s)' is shown as '[ 3/23] scalar proved (14 s)'.
+# One line a crate: 'rt: scalar proved (14 s)' is shown as '[ 4/32] scalar proved (14 s)'.
 show() {
     place=0
     while IFS= read -r line; do

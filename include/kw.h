@@ -59,7 +59,7 @@ enum {
 /* A region's flags. */
 enum {
     KW_FLAG_ENCRYPTED = 1,
-    KW_FLAG_PROTECTED = 2, /* a parity plane covers it */
+    KW_FLAG_PROTECTED = 2, /* its words are checked, if a parity plane covers it */
     KW_FLAG_OPTIONAL = 4,
     KW_FLAG_PLANE = 8 /* it is a parity plane */
 };
@@ -107,15 +107,15 @@ enum { KW_MEND_STORED = 4, KW_MEND_WHOLE = 5, KW_MEND_NUMBERS = 6 };
 enum { KW_WRITE_LENGTH = 0, KW_WRITE_NUMBERS = 1 };
 
 /* The most stack in bytes that a call takes, with its return address and without what `memset` takes.
-   Measured: 2216, 2264, 2264, 4376, 4488, 10632 and 12424. */
+   The number beside each is what was measured. */
 enum {
-    KW_PARSE_STACK = 2560,
-    KW_REGION_STACK = 2560,
-    KW_REGION_AT_STACK = 2560,
-    KW_SCAN_STACK = 5120,
-    KW_SCRUB_STACK = 5120,
-    KW_MEND_STACK = 11264,
-    KW_WRITE_STACK = 13312
+    KW_PARSE_STACK = 2560,     /* 2216 */
+    KW_REGION_STACK = 2560,    /* 2264 */
+    KW_REGION_AT_STACK = 2560, /* 2264 */
+    KW_SCAN_STACK = 5120,      /* 4376 */
+    KW_SCRUB_STACK = 5120,     /* 4392 */
+    KW_MEND_STACK = 11264,     /* 10600 */
+    KW_WRITE_STACK = 13312     /* 12392 */
 };
 
 /* A refusal's name as docs/FORMAT.md has it, "Ok" for KW_OK, and "Unknown" for every other number. */
@@ -166,9 +166,9 @@ uint32_t kw_scan(const uint8_t *image, size_t len, uint64_t answer[KW_REPORT_NUM
 /* Repairs the words that one flipped bit explains, in place, and nothing else: no check byte, no
    header copy. Always returns 0, never a detail, and answers {1, words, corrected, uncorrectable}, or
    zeros: where no protected region has a plane, where the image doesn't parse, and where a repair in a
-   region that lies on the header spoiled it. In that last case alone the bytes written before stay. A
-   protected region that has no words but a plane counts as one that was looked at: where there is no
-   other, the answer is {1, 0, 0, 0}.
+   region that lies on the header spoiled it. In the last case the words that were repaired before the
+   failed parse stay written. A protected region that has no words but a plane counts as one that was
+   looked at: where there is no other, the answer is {1, 0, 0, 0}.
 
    A repair changes what was checked before. Three flipped bits can pass for one. Parse the image
    afresh after a repair, and have whatever approved it approve it again, before anything in it is
@@ -176,9 +176,9 @@ uint32_t kw_scan(const uint8_t *image, size_t len, uint64_t answer[KW_REPORT_NUM
 uint32_t kw_scrub(uint8_t *image, size_t len, uint64_t answer[KW_REPORT_NUMBERS]);
 
 /* Refuses as parse does, then with KW_OVERLAPPING_REGIONS where a region that isn't empty starts inside
-   the header or shares a byte with an earlier one. Otherwise makes all header copies what most of them
-   say, repairs the words that one flipped bit explains and their check bytes, and changes nothing else:
-   an uncorrectable word keeps its data and its check byte. Answers {1, words, corrected, uncorrectable,
+   the header or shares a byte with an earlier one. Otherwise sets every header copy to the bitwise
+   majority of the three, repairs the words that one flipped bit explains and their check bytes, and
+   changes nothing else: an uncorrectable word keeps its data and its check byte. Answers {1, words, corrected, uncorrectable,
    stored, whole}, the first four 0 where scan answers zeros; or {detail, 0, 0, 0, 0, 0}. `stored` is the
    number of bytes that changed; `whole` is 1 exactly if there is a report and no word is uncorrectable, and
    says nothing about regions without a plane.

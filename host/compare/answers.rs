@@ -4,7 +4,7 @@ use crate::inputs::Entry;
 use crate::model;
 use keleusma_wire::{crc32, EccReport, Region, WireError, WireView};
 
-/// Document 01's number and detail.
+/// The number and detail of FORMAT 2.
 fn refusal(error: &WireError) -> [u64; 2] {
     match *error {
         WireError::Truncated => [1, 0],

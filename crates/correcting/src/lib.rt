@@ -7,7 +7,7 @@ ghost use lib.ListN.{length, set};
 ghost use Rattle.model.specs.Bytes.{at, leBytes, wordAt};
 ghost use Rattle.model.specs.Parity.{checkOf, outcome};
 ghost use Rattle.model.specs.Scan.{codewordsIn};
-ghost use Rattle.model.proofs.ScanLaw.{anyOf};
+ghost use Rattle.model.specs.Steps.{anyOf};
 ghost use Rattle.ecc.specs.Answers.{asOutcome};
 ghost use Rattle.ecc.specs.CheckTable.{IsCheckTable};
 ghost use Rattle.scan.specs.Runs.{codewordsOf, visitsAt, Fits};

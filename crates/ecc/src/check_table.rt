@@ -18,7 +18,7 @@ pub type CheckTable = [u8; 2048];
 // A table for fill_check_table to fill.
 pub const EMPTY_TABLE: CheckTable = [0u8; 2048];
 
-// The entries of place k whose byte has bit i as its highest: those below with the column of that bit put in, sixteen at once.
+// Entries 2^i to 2^(i+1) - 1 of place k: each is the entry 2^i below it, with the column of bit 8k + i put in. Sixteen are made at once.
 fn fill_bit(table: &mut CheckTable, k: usize, i: usize, column: u8)
     requires { ⌜ (k < 8) × (i < 8) × (column ≡ at model.columns (8 * k + i)) × Filled (256 * k + 2 ^ i) (now table) ⌝ }
     ensures { λ _. ⌜ Filled (256 * k + 2 ^ (i + 1)) (now (table .exit)) ⌝ }
@@ -49,7 +49,7 @@ fn fill_place(table: &mut CheckTable, columns: &[u8; 72], k: usize)
 pub fn fill_check_table(table: &mut CheckTable)
     ensures { λ _. ⌜ IsCheckTable (now (table .exit)) ⌝ }
 {
-    // All of it is written below; this says how long it is.
+    // The assignment tells the prover that the table has 2,048 entries; all of them are written below.
     *table = EMPTY_TABLE;
     let columns = COLUMNS;
     let mut k: usize = 0;

@@ -168,7 +168,7 @@ fn status_of(data: u64, syndrome: u8) -> WordStatus
         return WordStatus::Corrected(data ^ (1u64 << i));
     }
     if i < 72 {
-        // A check bit took the hit; the data was never wrong.
+        // The flipped bit is in the check byte; the data is right.
         return WordStatus::Corrected(data);
     }
     WordStatus::Uncorrectable
@@ -180,7 +180,7 @@ pub fn decode_word(data: u64, check: u8) -> WordStatus
     status_of(data, check_byte(data) ^ check)
 }
 
-// What a scan found: words examined, words with a corrected fault, words with more faults than one.
+// What a scan found: words examined, words with a corrected fault, words that no single flipped bit explains.
 pub struct EccReport {
     pub words: usize,
     pub corrected: usize,
@@ -188,7 +188,7 @@ pub struct EccReport {
 }
 
 impl EccReport {
-    // No word gave a syndrome. That is no proof that the words are undamaged: four flipped bits can cancel out.
+    // Every word's syndrome is 0. That is no proof that the words are undamaged: four flipped bits can cancel out.
     pub fn is_clean(self) -> bool
         ensures { λ r. ⌜ r ≡ eqb (self .corrected) 0 && eqb (self .uncorrectable) 0 ⌝ }
     {
@@ -232,7 +232,7 @@ pub fn plane_word(parity: &[u8], data: &[u8], index: usize) -> PlaneWord
     PlaneWord::Word(decode_word(scalar::u64_or_zero(data, 8 * index), parity[index]))
 }
 
-// What a word whose syndrome is not 0 adds to the corrected ones; it adds the rest of 1 to the uncorrectable ones.
+// 1 if the syndrome, which is not 0, is a column, so that the word is corrected; 0 if it is uncorrectable.
 fn one_if_corrected(syndrome: u8) -> usize
     requires { ⌜ (syndrome ≡ 0 → ⊥) ⌝ }
     ensures { λ r. ⌜ (r ≡ isCorrected (classOf syndrome)) × (1 - r ≡ isUncorrectable (classOf syndrome)) × (r ≤ 1) ⌝ }

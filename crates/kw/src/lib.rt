@@ -84,7 +84,7 @@ pub extern "C" fn kw_scrub(image: &mut [u8], answer: &mut [u64; 4]) -> u32
     0
 }
 
-// Those of the report, then stored and whole.
+// {1, words, corrected, uncorrectable, stored, whole}, with zeros for the first four where there is no report.
 fn mending_numbers(m: Mending) -> [u64; 6]
     ensures { λ r. ⌜ r ≡ mendingNumbers (asScan (m .report)) (m .stored) (m .whole) ⌝ }
 {

@@ -51,7 +51,7 @@ fn entry_numbers(found: RegionAt) -> [u64; 6]
     }
 }
 
-// Directory entry index, of an index that 16 bits need not hold.
+// The directory entry at an index of 32 bits; nothing past the last.
 fn entry_at(image: &[u8], header: Header, index: u32) -> RegionAt
     ensures { λ r. ⌜ r ≡ foundAs (regionAt (header .«region_count») (now (image .entry)) index) ⌝ }
 {

@@ -129,7 +129,7 @@ pub extern "C" fn kwt_header_bytes(count: usize, answer: &mut [u64; 2])
     }
 }
 
-// {byte offset, byte length, encrypted, a plane, protected}, a yes as 1.
+// {byte offset, byte length, encrypted, a plane, flagged 2}, a yes as 1.
 #[no_mangle]
 pub extern "C" fn kwt_region(
     kind: u16,

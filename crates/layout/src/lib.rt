@@ -20,7 +20,7 @@ pub const PROLOGUE_BYTES: usize = 16;
 
 pub const DIR_ENTRY_BYTES: usize = 16;
 
-// Of the prologue, and of the directory.
+// How many copies of the prologue and of the directory a header has.
 pub const COPIES: usize = 3;
 
 // Where the first copy of the directory starts.
@@ -119,7 +119,7 @@ pub fn header_bytes(region_count: usize) -> Size
     Size::Of(region_count * DIR_ENTRY_BYTES * COPIES + DIRECTORY_OFFSET)
 }
 
-// The same of a count that a prologue can hold: 64 bits hold every such length.
+// The header's length for a prologue's count of 16 bits, which always fits.
 pub fn header_length(region_count: u16) -> usize
     ensures { λ r. ⌜ r ≡ headerLength «region_count» ⌝ }
 {

@@ -17,7 +17,7 @@ use Rattle.model.specs.Mend.{mendVerdict}
 use Rattle.model.specs.Writer.{Row, flagged, planeWords, rowEntry, rowEntries, planeEntry, planeEntries, rowWords, planesWords, planes, regions, firstWord, planDirectory, entryBytes, entriesBytes, prologueStart, prologueBytes, checks, planeBytes, planesBytes, planImage, imageLength}
 use Rattle.model.proofs.BytesLaw.{read-leBytes, at-left, at-right, length-thrice}
 use Rattle.model.proofs.ParseLaw.{good-prologue, entries-say}
-use Rattle.model.proofs.ScanLaw.{anyOf}
+use Rattle.model.specs.Steps.{anyOf}
 use Rattle.lemmas.proofs.HeaderLaw.{voted-copies, copies-first, copies-second}
 use Rattle.lemmas.proofs.BytesLow.{bytes-nil, bytes-append, bytes-thrice, bytes-leBytes}
 use Rattle.lemmas.proofs.CodeLaw.{check-low}

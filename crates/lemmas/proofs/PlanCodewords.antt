@@ -20,7 +20,8 @@ use Rattle.model.specs.Views.{firstThat, planeFor}
 use Rattle.model.specs.Scan.{planeOf, Visit, visitWith, visitOf, visitsOver, Codeword, codewordsFrom, wordsOf, codewordsIn, isProtected, Among}
 use Rattle.model.specs.Writer.{Row, flagged, planeWords, rowEntry, rowEntries, planeEntry, planeEntries, rowWords, planesWords, planes, kindAmong, checks, planeBytes, planesBytes}
 use Rattle.model.proofs.BytesLaw.{read-ext, read-drop, at-left, at-right}
-use Rattle.model.proofs.ScanLaw.{anyOf, codewords-append, visits-append}
+use Rattle.model.proofs.ScanLaw.{codewords-append, visits-append}
+use Rattle.model.specs.Steps.{anyOf}
 use Rattle.lemmas.proofs.VerdictLaw.{true-false, or-left, or-right}
 use Rattle.lemmas.proofs.EntriesLaw.{In, now, next, in-left, EntriesOK, plane-plain}
 use Rattle.lemmas.proofs.CodewordLaw.{among-append, among-left, among-right, Step, among-from, from-among}

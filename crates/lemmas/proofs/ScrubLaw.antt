@@ -17,7 +17,8 @@ use Rattle.model.specs.Mend.{mendVerdict}
 use Rattle.model.proofs.BytesLaw.{read-ext, read-lt}
 use Rattle.model.proofs.LayoutLaw.{length-directoryOf}
 use Rattle.model.proofs.WalkLaw.{nth-first}
-use Rattle.model.proofs.ScanLaw.{plus, plus-none, none-plus, plus-assoc, report-none, report-append, anyOf, any-append, codewords-append, scan-all, mark, visits-words}
+use Rattle.model.proofs.ScanLaw.{plus-none, none-plus, plus-assoc, report-none, report-append, any-append, codewords-append, scan-all, mark, visits-words}
+use Rattle.model.specs.Steps.{plus, anyOf}
 use Rattle.lemmas.specs.Steps.{scrubAll}
 use Rattle.lemmas.proofs.HeaderLaw.{SameHeader, same-directory, same-parse, header-kept}
 use Rattle.lemmas.proofs.CodeLaw.{wordAfter-low}

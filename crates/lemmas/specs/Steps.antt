@@ -1,4 +1,4 @@
--- Steps of code, for private contracts; nothing that a reader must believe. Scrub, mend and the writer; each comes to the model's definition (proofs/ScrubLaw, HeaderHalf, PutLaw). (FORMAT 8 to 10)
+-- Steps of code, for private contracts; nothing that a reader must believe. Scrub, mend and the writer; each comes to the model's definition (proofs/ScrubLaw, HeaderHalf, AppendLaw). (FORMAT 8 to 10)
 use mathlib.Core.Bool.{Bool, true, false}
 use mathlib.Core.List.{List, [], _∷_, _++_}
 use mathlib.Core.Option.{Option, none, some}

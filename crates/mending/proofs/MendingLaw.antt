@@ -17,7 +17,8 @@ use Rattle.model.specs.Scrub.{visitAt}
 use Rattle.model.specs.Mend as model
 use Rattle.model.specs.Mend.{mendVerdict, fixAt, fixAll, mendBytes, changed, mend}
 use Rattle.model.proofs.LayoutLaw.{length-directoryOf}
-use Rattle.model.proofs.ScanLaw.{anyOf, any-append, codewords-append, scan-all, visits-append, visits-to}
+use Rattle.model.proofs.ScanLaw.{any-append, codewords-append, scan-all, visits-append, visits-to}
+use Rattle.model.specs.Steps.{anyOf}
 use Rattle.view.proofs.EntriesForLaw.{entriesFor-is}
 use Rattle.lemmas.specs.Steps.{mendHeader, mendWords}
 use Rattle.lemmas.proofs.HeaderLaw.{SameHeader, header-kept, same-directory, same-visits}

@@ -2,7 +2,7 @@
 use mathlib.Core.List.{List}
 use Prim.Native.Nat.{ℕ}
 use Rattle.model.specs.Scan.{visits, classesAt, codewords}
-use Rattle.model.proofs.ScanLaw.{anyOf}
+use Rattle.model.specs.Steps.{anyOf}
 use Rattle.scan.specs.Tally.{Totals, tallied}
 
 -- what a scan of x counts

@@ -16,6 +16,7 @@ use Rattle.bits.proofs.VoteLaw.{majority}
 use Rattle.model.specs.Bytes.{at, read, tabulate, thrice, Bytes}
 use Rattle.model.specs.Layout.{maj3, voted, prologue, countIn, count, headerLength, directoryBytesOf, directoryBytes, Entry, entryOf, entries, directoryOf, directory, differs, header}
 use Rattle.model.proofs.BytesLaw.{length-tabulate, getD-tabulate, read-drop, length-thrice}
+use Rattle.model.specs.Steps.{entryIn}
 
 -- ---- the vote
 
@@ -85,10 +86,6 @@ entry-at (suc n) b zero d h = refl
 entry-at (suc n) b (suc i) d h =
     let e : 16 + 16 * i ≡ 16 * suc i = omega arith in
     entry-at n (drop 16 b) i d (le-of-suc-le-suc h) ∙ ap entryOf (drop-drop (16 * i) 16 b ∙ ap (λ (k : ℕ). drop k b) e)
-
--- entry i of n voted entries of x
-abbrev pub entryIn : ℕ → List ℕ → ℕ → Entry
-entryIn n x i = entryAt (directoryBytesOf n x) i
 
 -- the entries that are left, from i on: entry i and those behind it, or none
 pub walk : (n : ℕ) (x : List ℕ) (i : ℕ) → i < n → drop i (directoryOf n x) ≡ entryIn n x i ∷ drop (i + 1) (directoryOf n x)

@@ -15,6 +15,7 @@ use Rattle.model.specs.Views.{nth}
 use Rattle.model.specs.Scan.{Report, isCorrected, isUncorrectable, total, report, sliceWords, sliceScan, planeOf, isProtected, Visit, visitWith, visitOf, visitsOver, visits, Codeword, codewordsFrom, wordsOf, codewordsIn, codewords, classAt, classesAt, scanOf, scan}
 use Rattle.model.specs.Scrub.{State, scrubWord, scrubWords, scrubVisits, visitAt}
 use Rattle.model.proofs.BytesLaw.{tabulate-ext, read-ext}
+use Rattle.model.specs.Steps.{plus, noReport, anyOf}
 
 -- ---- parts
 
@@ -77,13 +78,7 @@ unfolding classesAt
 length-classes x [] = refl
 length-classes x (p ∷ ps) = ap suc (length-classes x ps)
 
--- the sum of two reports
-abbrev pub plus : Report → Report → Report
-plus a b =
-    record { words = a .words + b .words; corrected = a .corrected + b .corrected; uncorrectable = a .uncorrectable + b .uncorrectable }
-
-abbrev pub noReport : Report
-noReport = record { words = 0; corrected = 0; uncorrectable = 0 }
+-- ---- the sum of two reports
 
 pub plus-none : (r : Report) → plus r noReport ≡ r
 plus-none r = rw (add-zero (r .words), add-zero (r .corrected), add-zero (r .uncorrectable))
@@ -105,11 +100,6 @@ report-append x ps qs =
     rw (classes-append x ps qs, length-append (classesAt x ps) (classesAt x qs), total-append isCorrected (classesAt x ps) (classesAt x qs), total-append isUncorrectable (classesAt x ps) (classesAt x qs))
 
 -- ---- lists of visits
-
--- there is one
-abbrev pub anyOf : List Visit → Bool
-anyOf [] = false
-anyOf (v ∷ vs) = true
 
 pub any-append : (vs ws : List Visit) → anyOf (vs ++ ws) ≡ anyOf vs || anyOf ws
 any-append [] ws = refl

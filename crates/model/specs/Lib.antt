@@ -11,3 +11,4 @@ pub mod Writer
 pub mod Mend
 pub mod Placement
 pub mod Programs
+pub mod Steps

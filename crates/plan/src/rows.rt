@@ -81,7 +81,7 @@ fn is_bad(row: Row) -> bool
     row.kind > HIGHEST_KIND || row.flags > ROW_FLAGS
 }
 
-// Of a kind above 0x7FFF, which no row that is fine has, this says nothing of use.
+// Whether a kind up to 0x7FFF was seen. For a kind above that the answer is meaningless; check_row refuses such a row before it uses it.
 fn is_marked(plan: &[u64; PLAN_WORDS], kind: u16) -> bool
     ensures { λ r. ⌜ r ≡ marked (now (plan .entry)) kind ⌝ }
 {

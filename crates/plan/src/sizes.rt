@@ -44,7 +44,7 @@ fn planes_words(rows: &[u64]) -> usize
     sum
 }
 
-// What is left to refuse once the rows are fine and few: the payload's length, the image's, the room for it.
+// Checks what is left once the rows passed their own checks and have at most 1,024 regions: the payload's length, the image's, the room for it.
 pub fn check_sizes(rows: &[u64], regions: usize, payload: &[u8], room: usize) -> Check
     requires { ⌜ (length (now rows) ≤ 1024) × (regions ≤ 1024) × (regions ≡ model.regions (rowsOf (now rows))) ⌝ }
     ensures { λ r. ⌜ asCheck r ≡ sizesVerdict (rowsOf (now (rows .entry))) (now (payload .entry)) room ⌝ }

@@ -14,7 +14,8 @@ use Rattle.model.specs.Views.{bytesSpan, firstThat, planeFor, entriesFor, eccFo
 use Rattle.model.specs.Scan.{report, planeOf, planeWithin, isProtected, Visit, visitWith, visitOf, codewordsFrom, wordsOf, codewordsIn, classesAt}
 use Rattle.model.specs.Scrub.{visitAt}
 use Rattle.model.proofs.PlaneLaw as plane-law
-use Rattle.model.proofs.ScanLaw.{length-classes, anyOf, codewords-one, visit-plain, visit-protected}
+use Rattle.model.proofs.ScanLaw.{length-classes, codewords-one, visit-plain, visit-protected}
+use Rattle.model.specs.Steps.{anyOf}
 use Rattle.error.specs.declared.Refusal.{Refusal}
 use Rattle.layout.specs.declared.Region.{Region}
 use Rattle.layout.specs.Regions.{asEntry, regionOf}

@@ -7,7 +7,8 @@ use native.Mathlib.Omega.{arith}
 use lib.ListN.{length, length-append}
 use Rattle.model.specs.Parity.{Class, clean, flipped, uncorrectable, Outcome, cleanWord, correctedWord, uncorrectableWord, outcomeAs}
 use Rattle.model.specs.Scan.{Report, total, isCorrected, isUncorrectable, report}
-use Rattle.model.proofs.ScanLaw.{plus, noReport, plus-none, plus-assoc, report-none, total-append}
+use Rattle.model.proofs.ScanLaw.{plus-none, plus-assoc, report-none, total-append}
+use Rattle.model.specs.Steps.{plus, noReport}
 use Rattle.scan.specs.Tally.{Totals, noTotals, tallied, withReport, reportOn, counted, withClasses, Bounded, Room}
 
 same-report : {a b c a′ b′ c′ : ℕ} → a ≡ a′ → b ≡ b′ → c ≡ c′

@@ -14,7 +14,8 @@ use Rattle.model.specs.Parse.{parseVerdict}
 use Rattle.model.specs.Views.{entriesFor, nth}
 use Rattle.model.specs.Scan.{Report, report, Visit, visitsOver, Codeword, codewordsIn, classesAt, scanOf, scanIn, visits, scan}
 use Rattle.model.specs.Scrub.{visitAt}
-use Rattle.model.proofs.ScanLaw.{plus-none, none-plus, plus-assoc, report-append, report-none, anyOf, any-append, codewords-append, scan-given, visits-from}
+use Rattle.model.proofs.ScanLaw.{plus-none, none-plus, plus-assoc, report-append, report-none, any-append, codewords-append, scan-given, visits-from}
+use Rattle.model.specs.Steps.{anyOf}
 use Rattle.view.proofs.EntriesForLaw.{length-entriesFor, entriesFor-is}
 use Rattle.scan.specs.declared.runs.ProtectedRun.{ProtectedRun}
 use Rattle.scan.specs.Runs.{codewordsOf, IsRun}

@@ -7,7 +7,7 @@ use lib.ListN.{length}
 use Rattle.model.specs.Views.{entriesFor, regionAt}
 use Rattle.model.specs.Scan.{Visit, Codeword, codewordsFrom, codewordsIn}
 use Rattle.model.specs.Scrub.{visitAt}
-use Rattle.model.proofs.ScanLaw.{anyOf}
+use Rattle.model.specs.Steps.{anyOf}
 use Rattle.scan.specs.declared.runs.ProtectedRun.{ProtectedRun}
 
 -- the visit of entry i of x, if it has one, with a count n of regions that stands beside x

@@ -6,7 +6,7 @@ use Prim.Native.Nat.{ℕ, _+_, _^_, _≤_}
 use Rattle.model.specs.Bytes.{given}
 use Rattle.model.specs.Parity.{Class, Outcome, cleanWord, correctedWord, uncorrectableWord}
 use Rattle.model.specs.Scan.{Report, report, Visit, codewordsIn, classesAt}
-use Rattle.model.proofs.ScanLaw.{plus, noReport, anyOf}
+use Rattle.model.specs.Steps.{plus, noReport, anyOf}
 use Rattle.ecc.specs.Answers.{asReport}
 use Rattle.scan.specs.declared.tally.Tally.{Tally}
 

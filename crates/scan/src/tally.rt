@@ -1,6 +1,6 @@
 // What a scan, scrub or mend has counted so far: every counter is added to here, and nowhere else. (FORMAT 7, 8, 10)
 ghost use mathlib.Core.Path.{_≡_};
-ghost use Rattle.model.proofs.ScanLaw.{plus};
+ghost use Rattle.model.specs.Steps.{plus};
 ghost use Rattle.ecc.specs.Answers.{asOutcome, asReport};
 ghost use Rattle.scan.specs.Answers.{asScan};
 ghost use Rattle.scan.specs.Tally.{asTotals, noTotals, marked, withReport, counted, reportOn, reportedBy, Bounded, Room};
@@ -27,7 +27,7 @@ pub fn empty_tally() -> Tally
     }
 }
 
-// A region that is visited makes for a report, even without words.
+// Notes whether a region was visited. With one that was, there is a report, even without words.
 pub fn visit(tally: Tally, visited: bool) -> Tally
     ensures { λ r. ⌜ asTotals r ≡ marked (asTotals tally) visited ⌝ }
 {
@@ -61,7 +61,7 @@ pub(crate) fn add_report(tally: Tally, report: EccReport) -> Tally
     }
 }
 
-// Each case has sums of its own: to add a count of 0 or 1 to each would take longer than to decode the word.
+// Adds one word to a report. Each case has sums of its own: to add a count of 0 or 1 to each would take longer than to decode the word.
 fn count_word(report: EccReport, status: WordStatus) -> EccReport
     requires { ⌜ Room 1 (asReport report) ⌝ }
     ensures { λ r. ⌜ asReport r ≡ plus (asReport report) (reportOn (asOutcome status)) ⌝ }

@@ -16,7 +16,8 @@ use Rattle.model.specs.Views.{entriesFor, regionAt}
 use Rattle.model.specs.Scan.{Codeword, codewordsIn, classAt, isCorrected, total, report}
 use Rattle.model.specs.Scrub.{State, storedWord, scrubWord, scrubWords, scrubVisits, scrubRegion, scrubFrom, reported, scrub}
 use Rattle.model.proofs.ParseLaw.{accepted-long}
-use Rattle.model.proofs.ScanLaw.{anyOf, mark, visits-words}
+use Rattle.model.proofs.ScanLaw.{mark, visits-words}
+use Rattle.model.specs.Steps.{anyOf}
 use Rattle.scan.specs.Tally.{Totals, noTotals, marked, counted, withClasses, reportedBy}
 use Rattle.scan.proofs.TallyLaw.{count-next, count-none, counted-tally}
 use Rattle.correcting.specs.Correct.{correctAt, correctAll, met}

@@ -53,7 +53,7 @@ pub fn region_bytes(bytes: &[u8], region: Region) -> &[u8]
     }
 }
 
-// A region as a table of records of stride bytes.
+// Where the bytes of a region start and end that is a table of records of stride bytes, or why it is no such table.
 pub fn records_span(len: usize, region: Region, stride: usize) -> PartSpan
     ensures { λ r. ⌜ asSpan r ≡ tableSpan len (asEntry region) stride ⌝ }
 {
@@ -105,7 +105,7 @@ pub fn record_count(bytes: &[u8], stride: usize) -> usize
     if stride == 0 { 0 } else { bytes.len() / stride }
 }
 
-// Record index of a table of len bytes.
+// Where record index of a table of len bytes starts and ends, or nothing.
 pub fn record_place(len: usize, stride: usize, index: usize) -> Place
     ensures { λ r. ⌜ asPlace r ≡ recordRange len stride index ⌝ }
 {

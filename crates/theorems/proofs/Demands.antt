@@ -66,8 +66,8 @@ use Rattle.theorems.proofs.ReadsBack.{read-back}
 use Rattle.theorems.proofs.Sample.{sampleRows, samplePayload, sample, sample-written, everyHit, hit-allowed, hit-header, hit-words, twoBits, two-bits-excluded, twoCopies, two-copies-excluded}
 
 -- ==== Demand 1. "Every input gets an answer."
--- There is nothing to state: a function that does not end, or that some input can stop, is not built. No public function has a `requires` but six building blocks
--- (of `put`, and `add_word` of `scan`), whose callers are proved to meet it. What each answers is its contract (docs/PROMISES.md).
+-- There is nothing to state: a function that does not end, or that some input can stop, is not built. No public function has a `requires` but the
+-- building blocks that docs/PROMISES.md lists, whose callers are proved to meet it. What each answers is its contract (docs/PROMISES.md).
 
 -- "Refused by number": number and detail name the refusal.
 pub refused-by-number : (a b : Refusal) → numberOf a ≡ numberOf b → detailOf a ≡ detailOf b → a ≡ b

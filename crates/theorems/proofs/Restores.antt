@@ -17,7 +17,8 @@ use Rattle.model.specs.Scan.{visits, Among, codewords, isUncorrectable, total, 
 use Rattle.model.specs.Writer.{Row, flagged, rowEntries, planeEntry, planeEntries, planeWords, rowWords, planesBytes, planes, regions, firstWord, planDirectory, planImage, image, write}
 use Rattle.model.specs.Mend.{mendVerdict, MendRule, mendBytes, changed, noneUncorrectable, whole, mended, mend}
 use Rattle.model.proofs.BytesLaw.{at-left}
-use Rattle.model.proofs.ScanLaw.{anyOf, scan-all}
+use Rattle.model.proofs.ScanLaw.{scan-all}
+use Rattle.model.specs.Steps.{anyOf}
 use Rattle.lemmas.proofs.HeaderLaw.{same-visits, same-verdict}
 use Rattle.lemmas.proofs.MendLaw.{InOrder, meets-rule}
 use Rattle.lemmas.proofs.PlanLaw.{RowsOK, PlanOK, wrote}

@@ -17,7 +17,8 @@ use Rattle.model.specs.Scrub.{scrub}
 use Rattle.model.specs.Mend.{LaidApart, apartVerdict, mendVerdict, MendRule, mendBytes, noneUncorrectable, mended, mend}
 use Rattle.model.proofs.BytesLaw.{at-left, at-right, length-thrice}
 use Rattle.model.proofs.LayoutLaw.{length-prologue, length-directoryBytes, differs-not}
-use Rattle.model.proofs.ScanLaw.{length-classes, anyOf, scan-all}
+use Rattle.model.proofs.ScanLaw.{length-classes, scan-all}
+use Rattle.model.specs.Steps.{anyOf}
 use Rattle.lemmas.specs.Steps.{scrubAll}
 use Rattle.lemmas.proofs.VerdictLaw.{passed-both, or-none}
 use Rattle.lemmas.proofs.HeaderLaw.{SameHeader, same-header, same-directory, same-visits, same-codewords, same-verdict, copied}

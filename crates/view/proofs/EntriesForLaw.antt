@@ -15,9 +15,10 @@ use Rattle.model.specs.Refusals.{fine}
 use Rattle.model.specs.Layout.{Entry, count, headerLength, voted, directoryBytesOf, directoryOf, directory, entries, start, end}
 use Rattle.model.specs.Parse.{parseVerdict}
 use Rattle.model.specs.Views.{Range, range, entriesFor, nth, regionAt, firstThat, ofKind, planeFor, findRegion, placeWithin, eccFor}
-use Rattle.model.proofs.LayoutLaw.{entryIn, noEntry, entry-at, length-directoryOf, flags-in, covers-in}
+use Rattle.model.proofs.LayoutLaw.{noEntry, entry-at, length-directoryOf, flags-in, covers-in}
 use Rattle.model.proofs.ParseLaw.{accepted-long}
 use Rattle.model.proofs.WalkLaw.{nth-in, nth-past}
+use Rattle.model.specs.Steps.{entryIn}
 use Rattle.layout.specs.declared.Region.{Region}
 use Rattle.layout.specs.Regions.{regionOf}
 use Rattle.layout.proofs.FlagLaw.{flag}

@@ -13,7 +13,8 @@ use lib.ListN.{drop-of-length-le}
 use Rattle.model.specs.Bytes.{read}
 use Rattle.model.specs.Layout.{Entry, voted, directoryBytesOf, directoryOf, entries}
 use Rattle.model.specs.Parse.{among}
-use Rattle.model.proofs.LayoutLaw.{entryIn, noEntry, entry-at, length-directoryOf}
+use Rattle.model.proofs.LayoutLaw.{noEntry, entry-at, length-directoryOf}
+use Rattle.model.specs.Steps.{entryIn}
 use Rattle.vote.proofs.RegionLaw.{kind-front}
 use Rattle.view.specs.Kinds.{kindsOf, elem}
 

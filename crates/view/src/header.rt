@@ -5,7 +5,7 @@ ghost use Prim.Native.Nat.{ℕ, _+_, _*_, _<_, _≤_};
 ghost use lib.ListN.{length, take};
 ghost use Rattle.model.specs.Layout.{headerLength, prologue, countIn, count, directoryOf, end};
 ghost use Rattle.model.specs.Parse as model;
-ghost use Rattle.model.proofs.LayoutLaw.{entryIn};
+ghost use Rattle.model.specs.Steps.{entryIn};
 ghost use Rattle.error.specs.Refused.{asCheck};
 ghost use Rattle.view.specs.Answers.{asCounted, withCount, asParsed};
 ghost use Rattle.view.specs.Kinds.{elem, kindsOf};
@@ -35,7 +35,7 @@ pub struct Header {
 }
 
 impl Header {
-    // Some header copy took damage: the vote outvotes it, and rewriting it restores the margin.
+    // Some header copy is damaged. The vote outvotes it; once it is rewritten, a later error can be outvoted again.
     pub fn needs_scrub(self) -> bool
         ensures { λ r. ⌜ r ≡ self .«prologue_disagreed» || self .«directory_disagreed» ⌝ }
     {
@@ -72,7 +72,7 @@ pub fn parse(bytes: &[u8]) -> ParseResult
     }
 }
 
-// All of parse but the marks.
+// Parse without asking which header copies differ.
 fn check_header(bytes: &[u8]) -> Counted
     ensures { λ r. ⌜ asCounted r ≡ withCount (model.parseVerdict (now (bytes .entry))) (count (now (bytes .entry))) ⌝ }
 {
@@ -125,7 +125,7 @@ fn check_directory(bytes: &[u8], n: usize) -> Check
     check_entries_in(bytes, n, &mut kinds[..n])
 }
 
-// With room for the kinds.
+// Checks the entries; kinds is scratch space for their kinds.
 fn check_entries_in(bytes: &[u8], n: usize, kinds: &mut [u16]) -> Check
     requires { ⌜ (headerLength n ≤ length (now bytes)) × (n ≤ 1024) × (length (now kinds) ≡ n) ⌝ }
     ensures { λ r. ⌜ asCheck r ≡ model.entriesVerdict (length (now (bytes .entry))) 0 (directoryOf n (now (bytes .entry))) ⌝ }

@@ -37,7 +37,7 @@ pub fn region_at(bytes: &[u8], header: Header, index: u16) -> RegionAt
     RegionAt::Found(voted_region(bytes, n, i))
 }
 
-// The first region of this kind; parse sees to it that there is no second.
+// The first region of this kind; of bytes that parse accepted it is the only one.
 pub fn find_region(bytes: &[u8], header: Header, kind: u16) -> RegionAt
     ensures { λ r. ⌜ r ≡ foundAs (findRegion (header .«region_count») (now (bytes .entry)) kind) ⌝ }
 {

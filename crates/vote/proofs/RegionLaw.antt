@@ -5,7 +5,8 @@ use Prim.Native.Nat.{ℕ, _+_, _*_}
 use native.Mathlib.Omega.{arith}
 use Rattle.model.specs.Bytes.{read}
 use Rattle.model.specs.Layout.{voted, directoryBytesOf}
-use Rattle.model.proofs.LayoutLaw.{entryIn, kind-in, flags-in, offset-in, words-in, covers-in}
+use Rattle.model.proofs.LayoutLaw.{kind-in, flags-in, offset-in, words-in, covers-in}
+use Rattle.model.specs.Steps.{entryIn}
 use Rattle.layout.specs.declared.Region.{Region}
 use Rattle.layout.specs.Regions.{regionOf}
 

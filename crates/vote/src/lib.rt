@@ -5,7 +5,7 @@ ghost use lib.ListN.{length, take, drop};
 ghost use Rattle.model.specs.Bytes.{at, read, thrice};
 ghost use Rattle.model.specs.Crc as model;
 ghost use Rattle.model.specs.Layout.{voted, prologue, differs, headerLength};
-ghost use Rattle.model.proofs.LayoutLaw.{entryIn};
+ghost use Rattle.model.specs.Steps.{entryIn};
 ghost use Rattle.layout.specs.Regions.{regionOf};
 ghost use Rattle.model.proofs.CopiesLaw.{offAt};
 use layout::DIR_ENTRY_BYTES;

@@ -51,7 +51,7 @@ pub(crate) fn write_plan(
     write_rows(&kept[MARK_WORDS..end], regions, payload, out)
 }
 
-// What is refused for its sizes, or the image written, of rows that are fine and few.
+// Checks the sizes of rows that passed their own checks and have at most 1,024 regions, and writes the image.
 fn write_rows(rows: &[u64], regions: usize, payload: &[u8], out: &mut [u8]) -> WriteResult
     requires { ⌜ (length (now rows) ≤ 1024) × (regions ≤ 1024) × (regions ≡ model.regions (rowsOf (now rows))) × Low (now rows) ⌝ }
     ensures { λ r. ⌜ Answered (sizesVerdict (rowsOf (now (rows .entry))) (now (payload .entry)) (length (now (out .entry))))

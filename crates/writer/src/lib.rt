@@ -16,7 +16,7 @@ use plan::check_row;
 use plan::empty_plan;
 
 // The image of the plan goes to the front of `out`, and the answer is its length; a refusal leaves every byte of `out` as it was.
-// This is the one function that holds a `&[Row]`, since its proof is by hand: each row goes to `check_row` by value, and what is
+// This is the one function of this crate that holds a `&[Row]`, since its proof is by hand: each row goes to `check_row` by value, and what is
 // kept of them to `write_plan`.
 pub fn write(rows: &[Row], payload: &[u8], out: &mut [u8]) -> WriteResult
     ensures { λ r. ⌜ (asWritten r ≡ answerOf (model.write (asPlan (now (rows .entry))) (now (payload .entry)) (length (now (out .entry)))))

@@ -8,7 +8,7 @@ use lib.ListN.{length}
 use Rattle.model.specs.Bytes.{Bytes}
 use Rattle.model.specs.Scan.{codewordsIn}
 use Rattle.model.specs.Mend.{fixAll}
-use Rattle.model.proofs.ScanLaw.{anyOf}
+use Rattle.model.specs.Steps.{anyOf}
 use Rattle.scan.specs.Runs.{visitsAt}
 use Rattle.scan.specs.Tally.{Totals, asTotals, marked, withClasses, Room}
 use Rattle.scan.proofs.TallyLaw.{room-start}

@@ -5,7 +5,7 @@ use borrow.Author.Needs.{needs}
 use Rattle.ecc.specs.Answers.{asOutcome, asReport}
 use Rattle.ecc.specs.declared.WordStatus.{WordStatus}
 use Rattle.scan.specs.Tally.{reportOn}
-use Rattle.model.proofs.ScanLaw.{plus}
+use Rattle.model.specs.Steps.{plus}
 use Rattle.scan.proofs.TallyLaw.{on-clean, on-corrected, on-uncorrectable}
 use Rattle.scan.proofs.tally.count_word.Statement.{statement}
 use Rattle.scan.proofs.tally.count_word.Tie as tie

@@ -12,8 +12,9 @@ use Rattle.model.proofs.BytesLaw.{part-to-end}
 use Rattle.model.specs.Refusals.{refuse}
 use Rattle.model.specs.Layout.{directoryOf}
 use Rattle.model.specs.Parse.{among, entriesVerdict}
-use Rattle.model.proofs.LayoutLaw.{entryIn, walk, walked}
+use Rattle.model.proofs.LayoutLaw.{walk, walked}
 use Rattle.model.proofs.WalkLaw.{verdict-past, verdict-twice, verdict-next, verdict-end}
+use Rattle.model.specs.Steps.{entryIn}
 use Rattle.view.specs.Kinds.{kindsOf, elem}
 use Rattle.view.proofs.KindsLaw.{kind-at, elem-kinds}
 use Rattle.view.proofs.header.check_entries.Statement.{statement}

@@ -7,8 +7,9 @@ use denote.Ref.{now}
 use lib.ListN.{drop}
 use Rattle.model.specs.Layout.{directoryOf}
 use Rattle.model.specs.Views.{firstThat, ofKind}
-use Rattle.model.proofs.LayoutLaw.{entryIn, walk, walked}
+use Rattle.model.proofs.LayoutLaw.{walk, walked}
 use Rattle.model.proofs.WalkLaw.{first-here, first-next, first-end}
+use Rattle.model.specs.Steps.{entryIn}
 use Rattle.view.specs.declared.regions.RegionAt.the-variants.{Found}
 use Rattle.view.specs.Answers.{foundAs}
 use Rattle.view.proofs.EntriesForLaw.{find-short, find-long, kind-test, kind-test-not}

@@ -6,8 +6,9 @@ use denote.Ref.{now}
 use lib.ListN.{drop}
 use Rattle.model.specs.Layout.{directoryOf}
 use Rattle.model.specs.Views.{firstThat, planeFor}
-use Rattle.model.proofs.LayoutLaw.{entryIn, walk, walked}
+use Rattle.model.proofs.LayoutLaw.{walk, walked}
 use Rattle.model.proofs.WalkLaw.{first-here, first-next, first-end}
+use Rattle.model.specs.Steps.{entryIn}
 use Rattle.view.specs.declared.regions.RegionAt.the-variants.{Found}
 use Rattle.view.specs.Answers.{foundAs}
 use Rattle.view.proofs.EntriesForLaw.{plane-test}
