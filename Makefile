@@ -59,9 +59,9 @@ bin/kw: host/kw.c target/staticlib/libcommand.a
 host/build/sample.kw: host/build/make_image
 	host/build/make_image >$@
 
-demo: $(PROGRAMS)
+demo: bin/kw
 	@$(MAKE) -s host/build/sample.kw
-	@sh host/example/demo.sh target/bin host/build/sample.kw
+	@sh host/example/demo.sh bin/kw host/build/sample.kw
 
 test:
 	@sh tests/gate.sh
@@ -106,7 +106,7 @@ install: $(KW_LIB) $(PROGRAMS)
 	install -m 644 include/kw.h $(DESTDIR)$(PREFIX)/include/kw.h
 	install -m 644 $(KW_LIB) $(DESTDIR)$(PREFIX)/lib/libkw.a
 	sed 's|@PREFIX@|$(PREFIX)|' include/kw.pc.in >$(DESTDIR)$(PREFIX)/lib/pkgconfig/kw.pc
-	install -m 644 docs/man/report.1 docs/man/scrub.1 $(DESTDIR)$(PREFIX)/share/man/man1
+	install -m 644 docs/man/kw.1 docs/man/kw-report.1 docs/man/kw-scrub.1 $(DESTDIR)$(PREFIX)/share/man/man1
 	install -m 644 docs/man/kw.3 $(DESTDIR)$(PREFIX)/share/man/man3
 
 clean:

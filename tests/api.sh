@@ -53,7 +53,7 @@ installed() {
         pkg-config --cflags --libs kw) || return 1
     "$work/dest/opt/kw/bin/report" <tests/answers/programs/damaged.kw | cmp - tests/answers/programs/damaged.report || return 1
     "$work/dest/opt/kw/bin/scrub" <tests/answers/programs/damaged.kw 2>"$work/line" | cmp - tests/answers/programs/damaged.scrub || return 1
-    for page in man1/report.1 man1/scrub.1 man3/kw.3; do
+    for page in man1/kw.1 man1/kw-report.1 man1/kw-scrub.1 man3/kw.3; do
         test -s "$work/dest/opt/kw/share/man/$page" || return 1
     done
     cp host/example/firmware.c "$work/firmware.c"
