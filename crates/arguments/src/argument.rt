@@ -42,7 +42,11 @@ fn same(a: &[u8], b: &[u8]) -> bool
 fn is_dashed(argument: &[u8]) -> bool
     ensures { λ r. ⌜ r ≡ model.dashed (now (argument .entry)) ⌝ }
 {
-    if argument.len() > 1 { argument[0] == b'-' } else { false }
+    if argument.len() > 1 {
+        argument[0] == b'-'
+    } else {
+        false
+    }
 }
 
 fn option(argument: &[u8]) -> u8

@@ -59,7 +59,11 @@ pub fn temporary(path: &[u8], out: &mut [u8; 8192]) -> usize
 fn is_rooted(link: &[u8]) -> bool
     ensures { λ r. ⌜ r ≡ rooted (now (link .entry)) ⌝ }
 {
-    if link.len() > 0 { link[0] == b'/' } else { false }
+    if link.len() > 0 {
+        link[0] == b'/'
+    } else {
+        false
+    }
 }
 
 // Where a link leads that stands at path and has this text.

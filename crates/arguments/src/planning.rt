@@ -212,7 +212,11 @@ fn may_name(plan: Plan, word: u8) -> bool
 pub fn reports_on(plan: Plan, word: u8) -> bool
     ensures { λ r. ⌜ r ≡ model.reportsOn plan word ⌝ }
 {
-    if plan.command == REPORT { may_name(plan, word) } else { false }
+    if plan.command == REPORT {
+        may_name(plan, word)
+    } else {
+        false
+    }
 }
 
 // One argument more: its number, and what it is.

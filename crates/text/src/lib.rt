@@ -9,17 +9,16 @@ ghost use lib.Seq.{sets};
 ghost use Rattle.io.specs.Counts.{Counts};
 ghost use Rattle.model.specs.Programs.{reportText, scrubImage, scrubText};
 ghost use Rattle.text.specs.Answers.{leftIn};
-use layout::MAX_INPUT_BYTES;
-use told::put_outcome;
-use told::put_report;
-
 pub use found::Findings;
 pub use found::Found;
 pub use found::Outcome;
 pub use found::look;
 pub use found::mend_within;
+use layout::MAX_INPUT_BYTES;
 pub use told::file_report;
 pub use told::mend_report;
+use told::put_outcome;
+use told::put_report;
 pub use told::uncorrectable_in;
 
 // The report on an image, from the start of out on; the number of its bytes.

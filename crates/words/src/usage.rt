@@ -25,7 +25,11 @@ fn put_report_help(out: &mut [u8]) -> usize
     ensures is { λ r. ⌜ Put (now (out .entry)) 0 reportHelp r (now (out .exit)) ⌝ }
     ensures few { λ r. ⌜ r ≤ 512 ⌝ }
 {
-    put_bytes(out, 0, b"usage: kw report FILE...\n\nSays of each image how many regions it has, whether a copy of its header is\ndamaged, and how many protected words were examined, can be corrected and can't.\n")
+    put_bytes(
+        out,
+        0,
+        b"usage: kw report FILE...\n\nSays of each image how many regions it has, whether a copy of its header is\ndamaged, and how many protected words were examined, can be corrected and can't.\n",
+    )
 }
 
 fn put_mend_help(out: &mut [u8]) -> usize
@@ -33,7 +37,11 @@ fn put_mend_help(out: &mut [u8]) -> usize
     ensures is { λ r. ⌜ Put (now (out .entry)) 0 mendHelp r (now (out .exit)) ⌝ }
     ensures few { λ r. ⌜ r ≤ 512 ⌝ }
 {
-    put_bytes(out, 0, b"usage: kw mend FILE [-o OUT]\n\nRepairs what votes and parity decide, in FILE itself or into OUT, and says how\nmany bytes changed and how many words remain uncorrectable.\n")
+    put_bytes(
+        out,
+        0,
+        b"usage: kw mend FILE [-o OUT]\n\nRepairs what votes and parity decide, in FILE itself or into OUT, and says how\nmany bytes changed and how many words remain uncorrectable.\n",
+    )
 }
 
 fn put_all_help(out: &mut [u8]) -> usize
@@ -41,7 +49,11 @@ fn put_all_help(out: &mut [u8]) -> usize
     ensures is { λ r. ⌜ Put (now (out .entry)) 0 allHelp r (now (out .exit)) ⌝ }
     ensures few { λ r. ⌜ r ≤ 512 ⌝ }
 {
-    put_bytes(out, 0, b"usage: kw report FILE...\n       kw mend FILE [-o OUT]\n       kw help [COMMAND]\n       kw version\n\nFILE - is standard input, and OUT - is standard output.\n\nExit status: 0 nothing is wrong, 1 damage, 2 refused or too long,\n3 usage, or a file that can't be read or written.\n")
+    put_bytes(
+        out,
+        0,
+        b"usage: kw report FILE...\n       kw mend FILE [-o OUT]\n       kw help [COMMAND]\n       kw version\n\nFILE - is standard input, and OUT - is standard output.\n\nExit status: 0 nothing is wrong, 1 damage, 2 refused or too long,\n3 usage, or a file that can't be read or written.\n",
+    )
 }
 
 // Help on a command, and on all of them for any other number.

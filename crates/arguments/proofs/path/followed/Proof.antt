@@ -54,7 +54,7 @@ returns-4 c =
     let a = c .before .before .before .before .before .before .before .before .args in
     let all = c .put-beside .ensures in
     name-put (a .out .now) _ _ all (beside (a .path .now) (a .link .now) (c .before .before .before .before .before .if1 .left) (c .before .before .before .before .if2 .left) (sym (c .before .before .before .is-rooted .ensures) ∙ c .before .before .if3 .left))
-        (omega (arith, folder-fits (a .path .now), length-append (folder (a .path .now)) (a .link .now), all .long, all .behind, c .before .before .before .before .before .if1 .left, c .before .before .before .before .if2 .left))
+    (omega (arith, folder-fits (a .path .now), length-append (folder (a .path .now)) (a .link .now), all .long, all .behind, c .before .before .before .before .before .if1 .left, c .before .before .before .before .if2 .left))
 
 pub followed-spec : {M : Type 1} → statement M
 followed-spec =
