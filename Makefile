@@ -72,9 +72,9 @@ bin/kw: host/kw.c target/staticlib/libcommand.a
 host/build/sample.kw: host/build/make_image
 	host/build/make_image >$@
 
-demo: $(PROGRAMS)
+demo: bin/kw
 	@$(MAKE) -s host/build/sample.kw
-	@sh host/example/demo.sh target/bin host/build/sample.kw
+	@sh host/example/demo.sh bin/kw host/build/sample.kw
 
 test check:
 	@sh tests/gate.sh
@@ -125,7 +125,6 @@ INSTALLED = $(addprefix $(bindir)/,kw kw-report kw-scrub) $(includedir)/kw.h \
 	$(addprefix $(libdir)/,libkw.a $(SONAME) libkw.so pkgconfig/kw.pc) \
 	$(addprefix $(mandir)/man1/,kw.1 kw-report.1 kw-scrub.1) \
 	$(addprefix $(mandir)/man3/,kw.3 $(FUNCTIONS:=.3))
-PAGES = $(wildcard docs/man/kw*.1)
 PLACES = @prefix@|$(prefix) @includedir@|$(includedir) @libdir@|$(libdir) @version@|$(VERSION)
 
 install: $(KW_LIB) host/build/$(SONAME) $(PROGRAMS) bin/kw
@@ -138,7 +137,7 @@ install: $(KW_LIB) host/build/$(SONAME) $(PROGRAMS) bin/kw
 	install -m 755 host/build/$(SONAME) $(DESTDIR)$(libdir)/$(SONAME)
 	ln -sf $(SONAME) $(DESTDIR)$(libdir)/libkw.so
 	sed $(PLACES:%=-e 's|%|') include/kw.pc.in >$(DESTDIR)$(libdir)/pkgconfig/kw.pc
-	$(if $(PAGES),install -m 644 $(PAGES) $(DESTDIR)$(mandir)/man1)
+	install -m 644 docs/man/kw.1 docs/man/kw-report.1 docs/man/kw-scrub.1 $(DESTDIR)$(mandir)/man1
 	install -m 644 docs/man/kw.3 $(DESTDIR)$(mandir)/man3
 	for name in $(FUNCTIONS); do echo .so man3/kw.3 >$(DESTDIR)$(mandir)/man3/$$name.3 || exit 1; done
 

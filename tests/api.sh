@@ -69,9 +69,9 @@ installed() {
     bin=$work/dest/opt/kw/bin man=$work/dest/opt/kw/share/man
     "$bin/kw-report" <tests/answers/programs/damaged.kw | cmp - tests/answers/programs/damaged.report || return 1
     "$bin/kw-scrub" <tests/answers/programs/damaged.kw 2>"$work/line" | cmp - tests/answers/programs/damaged.scrub || return 1
-    [ ! -e host/kw.c ] || "$bin/kw" version || return 1
-    for page in docs/man/kw*.1; do
-        [ ! -e "$page" ] || cmp "$page" "$man/man1/${page##*/}" || return 1
+    "$bin/kw" version || return 1
+    for page in kw.1 kw-report.1 kw-scrub.1; do
+        cmp "docs/man/$page" "$man/man1/$page" || return 1
     done
     cmp docs/man/kw.3 "$man/man3/kw.3" || return 1
     for function in $(functions) kw_refusal_name; do

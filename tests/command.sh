@@ -260,6 +260,10 @@ run mend "$damaged.kw" -o "$work/place/pipe"
 wait
 ended "mend into a pipe" 0
 same "mend into a pipe, the bytes" "$work/piped" "$damaged.scrub"
+"$kw" mend "$damaged.kw" -o /dev/stdout 2>"$work/err" | cat >"$work/piped"
+same "mend into a pipe by the name /dev/stdout" "$work/piped" "$damaged.scrub"
+"$kw" mend "$damaged.kw" -o /dev/stdout 2>"$work/err" >"$work/piped"
+same "mend into a file by the name /dev/stdout" "$work/piped" "$damaged.scrub"
 fresh
 (cd "$work/place" && "$kw" mend image.kw >"$work/out" 2>"$work/err"; echo $? >"$work/status")
 ended "mend in the present folder" 0

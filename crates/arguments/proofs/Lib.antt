@@ -1,1 +1,2 @@
 pub mod ArgumentsLaw
+pub mod OneAnswer

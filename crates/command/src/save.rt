@@ -113,6 +113,12 @@ fn replace(name: &[u8], target: &[u8], about: FileKind, image: &[u8]) -> bool {
     replace_by(name, &mut beside[..n], target, about, image)
 }
 
+fn replace_resolved(name: &[u8], about: FileKind, image: &[u8]) -> bool {
+    let mut target = [0u8; 8192];
+    let n = resolved(name, &mut target);
+    replace(name, &target[..n], about, image)
+}
+
 fn replace_by(
     name: &[u8],
     beside: &mut [u8],
@@ -155,36 +161,42 @@ fn pass_on(name: &[u8], file: i32, image: &[u8]) -> bool {
     written
 }
 
-fn save_open(name: &[u8], target: &[u8], file: i32, image: &[u8]) -> bool {
+fn save_open(name: &[u8], file: i32, image: &[u8]) -> bool {
     let about = filestat::about(file);
     if !is_regular(about) {
         return pass_on(name, file, image);
     }
     libc::close(file);
-    replace(name, target, about, image)
+    replace_resolved(name, about, image)
 }
 
 // A new file is made first, empty, as the system makes files for this user; where the image can't be written it goes again.
-fn save_new(name: &[u8], target: &[u8], image: &[u8]) -> bool {
+fn save_made(name: &[u8], target: &[u8], image: &[u8]) -> bool {
     let file = os::create(target);
     if file < 0 {
         crate::file::fail(name);
         return false;
     }
-    let saved = save_open(name, target, file, image);
+    let saved = save_open(name, file, image);
     if !saved {
         os::unlink(target);
     }
     saved
 }
 
-fn save_at(name: &[u8], target: &[u8], image: &[u8]) -> bool {
-    let file = os::open_append(target);
+fn save_new(name: &[u8], image: &[u8]) -> bool {
+    let mut target = [0u8; 8192];
+    let n = resolved(name, &mut target);
+    save_made(name, &target[..n], image)
+}
+
+fn save_named(name: &[u8], image: &[u8]) -> bool {
+    let file = os::open_append(name);
     if file >= 0 {
-        return save_open(name, target, file, image);
+        return save_open(name, file, image);
     }
     if os::errno() == libc::ENOENT {
-        return save_new(name, target, image);
+        return save_new(name, image);
     }
     crate::file::fail(name);
     false
@@ -195,7 +207,5 @@ pub(crate) fn save(name: &[u8], image: &[u8]) -> bool {
     if arguments::is_standard(name) {
         return crate::file::print(image) == 0;
     }
-    let mut target = [0u8; 8192];
-    let n = resolved(name, &mut target);
-    save_at(name, &target[..n], image)
+    save_named(name, image)
 }

@@ -7,7 +7,7 @@ ghost use lib.Seq.{sets};
 ghost use Rattle.io.specs.Counts.{Counts};
 ghost use Rattle.put.specs.Put.{Put};
 ghost use Rattle.model.specs.Programs.{decimal, lines};
-ghost use Rattle.words.specs.Sentences.{sentence, tooLongSentence, naming, complaint, refusalText, subjectText};
+ghost use Rattle.words.specs.Sentences.{sentence, tooLongSentence, naming, refusalText, subjectText};
 use crate::judging::Verdict;
 use error::Refusal;
 use put::put_bytes;

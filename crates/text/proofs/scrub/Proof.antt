@@ -1,14 +1,12 @@
 -- `text::scrub` meets its contract. Assumes nothing.
 use mathlib.Core.Path.{_≡_, refl, sym, ap, _∙_}
 use mathlib.Core.List.{List, [], _∷_}
-use mathlib.Core.Option.{Option}
 use Prim.Native.Nat.{ℕ, zero-le}
 use native.Mathlib.Omega.{arith}
 use borrow.Author.Needs.{needs}
 use lib.ListN.{length}
 use lib.Seq.{take-all}
 use Rattle.io.proofs.Counting.{counts}
-use Rattle.model.specs.Mend.{MendAnswer}
 use Rattle.model.specs.Programs.{lines, imageOut, lineOf, mendWithin, scrubImage, scrubLine, scrubText}
 use Rattle.text.specs.Answers.{asOutcome}
 use Rattle.text.specs.declared.found.Outcome.{Outcome}

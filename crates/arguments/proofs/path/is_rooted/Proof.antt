@@ -1,12 +1,11 @@
 -- `arguments::path::is_rooted` meets its contract. Assumes nothing.
-use mathlib.Core.Path.{_≡_, refl, sym, ap}
-use mathlib.Core.Bool.{Bool, false}
+use mathlib.Core.Path.{_≡_, refl}
+use mathlib.Core.Bool.{false}
 use mathlib.Core.List.{List, [], _∷_}
 use Prim.Native.Nat.{ℕ, _≤_}
 use native.Mathlib.Omega.{arith}
 use borrow.Author.Needs.{needs}
-use lib.Dec.{eqb}
-use lib.ListN.{length, getD}
+use lib.ListN.{length}
 use Rattle.arguments.specs.Paths.{rooted}
 use Rattle.arguments.proofs.path.is_rooted.Statement.{statement}
 use Rattle.arguments.proofs.path.is_rooted.Tie as tie

@@ -1,5 +1,4 @@
 -- `arguments::planning::asks_output` meets its contract: two tests. Assumes nothing.
-use borrow.Author.Needs.{needs}
 use borrow.Author.Tests.{eq-eqb, ne-eqb}
 use Rattle.arguments.proofs.planning.asks_output.Statement.{statement}
 use Rattle.arguments.proofs.planning.asks_output.Tie as tie

@@ -1,5 +1,4 @@
 -- `arguments::planning::is_command` meets its contract: a word between two numbers. Assumes nothing.
-use borrow.Author.Needs.{needs}
 use borrow.Author.Tests.{lt-ltb, le-ltb}
 use Rattle.arguments.proofs.planning.is_command.Statement.{statement}
 use Rattle.arguments.proofs.planning.is_command.Tie as tie

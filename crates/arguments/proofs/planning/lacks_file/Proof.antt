@@ -1,5 +1,4 @@
 -- `arguments::planning::lacks_file` meets its contract: two tests. Assumes nothing.
-use borrow.Author.Needs.{needs}
 use borrow.Author.Tests.{lt-ltb, le-ltb}
 use Rattle.arguments.proofs.planning.lacks_file.Statement.{statement}
 use Rattle.arguments.proofs.planning.lacks_file.Tie as tie

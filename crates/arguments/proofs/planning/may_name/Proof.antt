@@ -1,5 +1,4 @@
 -- `arguments::planning::may_name` meets its contract: two tests. Assumes nothing.
-use borrow.Author.Needs.{needs}
 use borrow.Author.Tests.{eq-eqb, ne-eqb}
 use Rattle.arguments.proofs.planning.may_name.Statement.{statement}
 use Rattle.arguments.proofs.planning.may_name.Tie as tie

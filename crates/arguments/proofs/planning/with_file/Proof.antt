@@ -1,5 +1,4 @@
 -- `arguments::planning::with_file` meets its contract: the first file, or one more. Assumes nothing.
-use borrow.Author.Needs.{needs}
 use borrow.Author.Tests.{eq-eqb, ne-eqb}
 use Rattle.arguments.proofs.planning.with_file.Statement.{statement}
 use Rattle.arguments.proofs.planning.with_file.Tie as tie

@@ -1,8 +1,6 @@
 -- `text::found::mend_within` meets its contract. Assumes nothing.
-use mathlib.Core.Path.{_≡_, sym, ap, _∙_}
-use mathlib.Core.List.{List}
-use mathlib.Core.Option.{Option, none, some}
-use Prim.Native.Nat.{ℕ}
+use mathlib.Core.Path.{sym, ap, _∙_}
+use mathlib.Core.Option.{Option, some}
 use borrow.Author.Needs.{needs}
 use Rattle.model.specs.Mend.{MendAnswer}
 use Rattle.model.proofs.ProgramsLaw.{mend-long, mend-short}

@@ -3,7 +3,7 @@ use native.Mathlib.Omega.{arith}
 use borrow.Author.Needs.{needs}
 use Rattle.put.proofs.PutLaw.{put-two}
 use mathlib.Core.Path.{subst}
-use mathlib.Core.List.{List, _++_, append-assoc}
+use mathlib.Core.List.{List, append-assoc}
 use Prim.Native.Nat.{ℕ}
 use Rattle.model.specs.Programs.{decimal}
 use Rattle.put.specs.Put.{Put}
