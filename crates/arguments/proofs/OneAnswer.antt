@@ -3,10 +3,10 @@ use denote.Ref.{now}
 use Rattle.model.proofs.OneAnswer.{OneAnswer, OneAnswerAnd, agree}
 use Rattle.arguments.proofs.argument.word.Reads as word
 use Rattle.arguments.proofs.argument.is_standard.Reads as is-standard
-use Rattle.arguments.proofs.planning.start.Reads as start
-use Rattle.arguments.proofs.planning.reports_on.Reads as reports-on
-use Rattle.arguments.proofs.planning.step.Reads as step
-use Rattle.arguments.proofs.planning.finish.Reads as finish
+use Rattle.arguments.proofs.invocation.start.Reads as start
+use Rattle.arguments.proofs.invocation.reports_on.Reads as reports-on
+use Rattle.arguments.proofs.invocation.step.Reads as step
+use Rattle.arguments.proofs.invocation.finish.Reads as finish
 use Rattle.arguments.proofs.path.folder_length.Reads as folder-length
 use Rattle.arguments.proofs.path.temporary.Reads as temporary
 use Rattle.arguments.proofs.path.followed.Reads as followed

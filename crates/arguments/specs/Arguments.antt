@@ -6,7 +6,7 @@ use Prim.Native.String.{String}
 use lib.Dec.{eqb, ltb}
 use lib.ListN.{length, getD}
 use Rattle.model.specs.Programs.{text}
-use Rattle.arguments.specs.declared.planning.Plan.{Plan}
+use Rattle.arguments.specs.declared.invocation.Invocation.{Invocation}
 
 -- ---- words. The first five numbers are those of the commands too, with 0 for none.
 
@@ -109,23 +109,23 @@ outputNext = 1
 abbrev pub namesOnly : ℕ
 namesOnly = 2
 
-abbrev pub nothingYet : Plan
+abbrev pub nothingYet : Invocation
 nothingYet = record { command = 0; topic = 0; files = 0; file = 0; output = 0; state = 0; fault = 0; place = 0 }
 
-abbrev pub faulty : Plan → ℕ → ℕ → Plan
+abbrev pub faulty : Invocation → ℕ → ℕ → Invocation
 faulty p i f = record { command = p .command; topic = p .topic; files = p .files; file = p .file; output = p .output; state = p .state; fault = f; place = i }
 
-abbrev pub commanding : Plan → ℕ → ℕ → Plan
+abbrev pub commanding : Invocation → ℕ → ℕ → Invocation
 commanding p n about = record { command = n; topic = about; files = p .files; file = p .file; output = p .output; state = p .state; fault = p .fault; place = p .place }
 
-abbrev pub inState : Plan → ℕ → Plan
+abbrev pub inState : Invocation → ℕ → Invocation
 inState p s = record { command = p .command; topic = p .topic; files = p .files; file = p .file; output = p .output; state = s; fault = p .fault; place = p .place }
 
-abbrev pub withOutput : Plan → ℕ → Plan
+abbrev pub withOutput : Invocation → ℕ → Invocation
 withOutput p i = record { command = p .command; topic = p .topic; files = p .files; file = p .file; output = i; state = 0; fault = p .fault; place = p .place }
 
 -- the first file's place is kept, and whether there is none, one or more
-abbrev pub withFile : Plan → ℕ → Plan
+abbrev pub withFile : Invocation → ℕ → Invocation
 withFile p i =
     cond (eqb (p .files) 0)
     (record { command = p .command; topic = p .topic; files = 1; file = i; output = p .output; state = p .state; fault = p .fault; place = p .place })
@@ -136,49 +136,49 @@ abbrev pub isCommand : ℕ → Bool
 isCommand w = ltb 0 w && ltb w outputOption
 
 -- the first argument
-unfoldable pub firstWord : Plan → ℕ → ℕ → Plan
+unfoldable pub firstWord : Invocation → ℕ → ℕ → Invocation
 firstWord p i w =
     cond (isCommand w) (commanding p w 0)
     (cond (eqb w helpOption) (commanding p help 0)
     (cond (eqb w versionOption) (commanding p version 0)
     (cond (eqb w aName) (faulty p i noSuchCommand) (faulty p i noSuchOption))))
 
-unfoldable pub onlyFile : Plan → ℕ → Plan
+unfoldable pub onlyFile : Invocation → ℕ → Invocation
 onlyFile p i = cond (eqb (p .files) 0) (withFile p i) (faulty p i secondFile)
 
-unfoldable pub helpTopic : Plan → ℕ → ℕ → Plan
+unfoldable pub helpTopic : Invocation → ℕ → ℕ → Invocation
 helpTopic p i w = cond (ltb 0 (p .topic)) (faulty p i notExpected) (cond (isCommand w) (commanding p help w) (faulty p i noSuchCommand))
 
 -- argument i is a name, or a command's word where a name may stand
-unfoldable pub named : Plan → ℕ → ℕ → Plan
+unfoldable pub named : Invocation → ℕ → ℕ → Invocation
 named p i w =
     cond (eqb (p .command) report) (withFile p i)
     (cond (eqb (p .command) mend) (onlyFile p i)
     (cond (eqb (p .command) help) (helpTopic p i w)
     (faulty p i notExpected)))
 
-unfoldable pub output : Plan → ℕ → Plan
+unfoldable pub output : Invocation → ℕ → Invocation
 output p i = cond (eqb (p .output) 0) (inState p outputNext) (faulty p i secondOutput)
 
-abbrev pub asksOutput : Plan → ℕ → Bool
+abbrev pub asksOutput : Invocation → ℕ → Bool
 asksOutput p w = eqb w outputOption && eqb (p .command) mend
 
-unfoldable pub option : Plan → ℕ → ℕ → Plan
+unfoldable pub option : Invocation → ℕ → ℕ → Invocation
 option p i w =
     cond (eqb w helpOption) (commanding p help (p .command))
     (cond (eqb w endOfOptions) (inState p namesOnly)
     (cond (asksOutput p w) (output p i)
     (faulty p i noSuchOption)))
 
-abbrev pub mayName : Plan → ℕ → Bool
+abbrev pub mayName : Invocation → ℕ → Bool
 mayName p w = eqb (p .state) namesOnly || ltb w outputOption
 
 -- whether the next argument is one of the files that a report is asked on
-abbrev pub reportsOn : Plan → ℕ → Bool
+abbrev pub reportsOn : Invocation → ℕ → Bool
 reportsOn p w = eqb (p .command) report && mayName p w
 
 -- one argument more, of number i
-unfoldable pub step : Plan → ℕ → ℕ → Plan
+unfoldable pub step : Invocation → ℕ → ℕ → Invocation
 step p i w =
     cond (ltb 0 (p .fault)) p
     (cond (eqb (p .state) outputNext) (withOutput p i)
@@ -186,11 +186,11 @@ step p i w =
     (cond (mayName p w) (named p i w)
     (option p i w))))
 
-abbrev pub lacksFile : Plan → Bool
+abbrev pub lacksFile : Invocation → Bool
 lacksFile p = ltb (p .command) help && eqb (p .files) 0
 
 -- no argument more
-unfoldable pub finish : Plan → Plan
+unfoldable pub finish : Invocation → Invocation
 finish p =
     cond (ltb 0 (p .fault)) p
     (cond (eqb (p .command) 0) (faulty p 0 noCommand)

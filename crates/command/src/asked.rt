@@ -1,6 +1,6 @@
 // The arguments, one by one.
 ghost use Rattle.io.specs.Counts.{Counts};
-use arguments::Plan;
+use arguments::Invocation;
 
 // What argument i is. One that is longer than any name is taken for a name, which can't be opened.
 pub(crate) fn word_at(i: usize) -> u8 {
@@ -9,14 +9,14 @@ pub(crate) fn word_at(i: usize) -> u8 {
     arguments::word(&argument[..n])
 }
 
-pub(crate) fn plan(count: usize) -> Plan {
-    let mut plan = arguments::start();
+pub(crate) fn invocation(count: usize) -> Invocation {
+    let mut invocation = arguments::start();
     let mut i: usize = 1;
     while i < count {
-        plan = arguments::step(plan, i, word_at(i));
+        invocation = arguments::step(invocation, i, word_at(i));
         i += 1;
     }
-    arguments::finish(plan)
+    arguments::finish(invocation)
 }
 
 // The argument that is at fault, or none where one is missing.

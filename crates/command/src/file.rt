@@ -1,20 +1,20 @@
 // Files by name, standard input and standard output.
 ghost use Rattle.io.specs.Counts.{Counts};
+use messages::FAILED;
+use messages::Verdict;
 use stdin::Input;
-use words::FAILED;
-use words::Verdict;
 
 // Says why the system failed at a file. It is called right after the call that failed.
 pub(crate) fn fail(name: &[u8]) {
     let mut text = [0u8; 4352];
-    let k = words::subject(name, &mut text);
+    let k = messages::subject(name, &mut text);
     os::fail(&text[..k]);
 }
 
 // Says in words why an image is refused, if it is.
 pub(crate) fn complain(name: &[u8], verdict: Verdict) {
     let mut line = [0u8; 4352];
-    let k = words::refusal(name, verdict, &mut line);
+    let k = messages::refusal(name, verdict, &mut line);
     io::write_all(libc::STDERR_FILENO, &line[..k]);
 }
 

@@ -1,7 +1,7 @@
 // kw mend.
-use arguments::Plan;
+use arguments::Invocation;
 use layout::MAX_IMAGE_BYTES;
-use words::FAILED;
+use messages::FAILED;
 
 fn say(text: &[u8]) {
     io::write_all(libc::STDERR_FILENO, text);
@@ -10,7 +10,7 @@ fn say(text: &[u8]) {
 // What is said of the image comes last: not before all of it is written.
 fn mend_image(name: &[u8], target: &[u8], in_place: bool, image: &mut [u8]) -> u8 {
     let outcome = text::mend_within(image, MAX_IMAGE_BYTES);
-    if words::is_written(outcome, in_place) {
+    if messages::is_written(outcome, in_place) {
         if !crate::save::save(target, image) {
             return FAILED;
         }
@@ -18,9 +18,9 @@ fn mend_image(name: &[u8], target: &[u8], in_place: bool, image: &mut [u8]) -> u
     let mut lines = [0u8; 128];
     let k = text::mend_report(outcome, &mut lines);
     say(&lines[..k]);
-    let verdict = words::judge_mending(outcome);
+    let verdict = messages::mending_verdict(outcome);
     crate::file::complain(name, verdict);
-    words::status(verdict)
+    messages::status(verdict)
 }
 
 fn mend_file(name: &[u8], target: &[u8], in_place: bool, image: &mut [u8]) -> u8 {
@@ -50,12 +50,12 @@ fn mend_named(name: &[u8], output: usize, image: &mut [u8]) -> u8 {
     mend_file(name, name, in_place, image)
 }
 
-pub(crate) fn mend(image: &mut [u8], plan: Plan) -> u8 {
+pub(crate) fn mend(image: &mut [u8], invocation: Invocation) -> u8 {
     let mut name = io::buffer();
-    let n = os::arg(plan.file, &mut name);
+    let n = os::arg(invocation.file, &mut name);
     if os::errno() != 0 {
         crate::file::fail(b"FILE");
         return FAILED;
     }
-    mend_named(&name[..n], plan.output, image)
+    mend_named(&name[..n], invocation.output, image)
 }

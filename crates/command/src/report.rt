@@ -1,15 +1,15 @@
 // kw report.
 use layout::MAX_IMAGE_BYTES;
-use words::FAILED;
+use messages::FAILED;
 
 fn report_image(name: &[u8], image: &[u8], several: bool) -> u8 {
     let found = text::look(image, MAX_IMAGE_BYTES);
     let mut lines = [0u8; 8448];
     let k = text::file_report(name, several, found, &mut lines);
     let printed = crate::file::print(&lines[..k]);
-    let verdict = words::judge_report(found);
+    let verdict = messages::report_verdict(found);
     crate::file::complain(name, verdict);
-    words::higher(printed, words::status(verdict))
+    messages::higher(printed, messages::status(verdict))
 }
 
 fn report_file(name: &[u8], image: &mut [u8], several: bool) -> u8 {
@@ -34,19 +34,25 @@ fn report_argument(i: usize, image: &mut [u8], several: bool) -> u8 {
 // The status so far, with that of argument i if it is a file.
 fn report_if(is_file: bool, i: usize, image: &mut [u8], several: bool, status: u8) -> u8 {
     if is_file {
-        return words::higher(status, report_argument(i, image, several));
+        return messages::higher(status, report_argument(i, image, several));
     }
     status
 }
 
 pub(crate) fn report(image: &mut [u8], count: usize, several: bool) -> u8 {
-    let mut plan = arguments::start();
+    let mut invocation = arguments::start();
     let mut status: u8 = 0;
     let mut i: usize = 1;
     while i < count {
         let word = crate::asked::word_at(i);
-        status = report_if(arguments::reports_on(plan, word), i, image, several, status);
-        plan = arguments::step(plan, i, word);
+        status = report_if(
+            arguments::reports_on(invocation, word),
+            i,
+            image,
+            several,
+            status,
+        );
+        invocation = arguments::step(invocation, i, word);
         i += 1;
     }
     status

@@ -29,13 +29,13 @@ uncorrectableIn (some r) = r .uncorrectable
 unfoldable pub uncorrectableLine : ℕ → List ℕ
 uncorrectableLine n = field "uncorrectable " n
 
-abbrev pub lostLines : ℕ → List (List ℕ)
-lostLines n = cond (ltb 0 n) (uncorrectableLine n ∷ []) []
+abbrev pub uncorrectableLines : ℕ → List (List ℕ)
+uncorrectableLines n = cond (ltb 0 n) (uncorrectableLine n ∷ []) []
 
 abbrev pub mendLines : Option MendAnswer → List (List ℕ)
 mendLines none = tooLongLine ∷ []
 mendLines (some (refusedMend n d)) = refusedLine n d ∷ []
-mendLines (some (mended y r stored whole)) = storedLine stored ∷ lostLines (uncorrectableIn r)
+mendLines (some (mended y r stored whole)) = storedLine stored ∷ uncorrectableLines (uncorrectableIn r)
 
 unfoldable pub mendText : Option MendAnswer → List ℕ
 mendText m = lines (mendLines m)

@@ -9,7 +9,7 @@ ghost use Rattle.put.specs.Put.{Put};
 ghost use Rattle.model.specs.Programs.{eccLine, lines, lineOf};
 ghost use Rattle.scan.specs.Answers.{asScan};
 ghost use Rattle.text.specs.Answers.{asFound, asOutcome};
-ghost use Rattle.text.specs.Told.{prefix, firstLine, fileLines, fileReport, uncorrectableIn, lostLines, mendText};
+ghost use Rattle.text.specs.Told.{prefix, firstLine, fileLines, fileReport, uncorrectableIn, uncorrectableLines, mendText};
 use crate::found::Found;
 use crate::found::Outcome;
 use crate::line::put_ecc;
@@ -123,13 +123,13 @@ pub fn uncorrectable_in(report: ScanResult) -> usize
     }
 }
 
-fn put_lost(out: &mut [u8], at: usize, lost: usize) -> usize
+fn put_uncorrectable_line(out: &mut [u8], at: usize, uncorrectable: usize) -> usize
     requires { ⌜ at + 35 ≤ length (now out) ⌝ }
-    ensures is { λ r. ⌜ Put (now (out .entry)) at (lines (lostLines lost)) r (now (out .exit)) ⌝ }
+    ensures is { λ r. ⌜ Put (now (out .entry)) at (lines (uncorrectableLines uncorrectable)) r (now (out .exit)) ⌝ }
     ensures few { λ r. ⌜ r ≤ at + 35 ⌝ }
 {
-    if lost > 0 {
-        let end = put_uncorrectable(out, at, lost);
+    if uncorrectable > 0 {
+        let end = put_uncorrectable(out, at, uncorrectable);
         put_line_feed(out, end)
     } else {
         at
@@ -148,7 +148,7 @@ pub fn mend_report(outcome: Outcome, out: &mut [u8; 128]) -> usize
         Outcome::Refused(_) => second,
         Outcome::Mended(mending) => {
             let report = mending.report;
-            put_lost(out, second, uncorrectable_in(report))
+            put_uncorrectable_line(out, second, uncorrectable_in(report))
         }
     }
 }

@@ -8,10 +8,10 @@ use Rattle.command.proofs.report.report.Statement.{statement}
 use Rattle.command.proofs.report.report.Tie as tie
 
 abbrev Inv-loop : tie.InvT-loop
-Inv-loop image₀ count several plan₀ status₀ i₀ image plan status i = length image ≡ length image₀
+Inv-loop image₀ count several invocation₀ status₀ i₀ image invocation status i = length image ≡ length image₀
 
 abbrev μ-loop : tie.MeasureT-loop
-μ-loop image₀ count several plan₀ status₀ i₀ image plan status i = count - i
+μ-loop image₀ count several invocation₀ status₀ i₀ image invocation status i = count - i
 
 pub report-spec : {M : Type 1} → statement M
 report-spec =

@@ -1,4 +1,4 @@
--- `text::told::mend_report` meets its contract: scrub's line, and for a mended image what is lost. Assumes nothing.
+-- `text::told::mend_report` meets its contract: scrub's line, and for a mended image what is uncorrectable. Assumes nothing.
 use mathlib.Core.Path.{_≡_, refl, sym, ap, subst}
 use mathlib.Core.List.{[], _∷_}
 use Prim.Native.Nat.{ℕ}
@@ -8,7 +8,7 @@ use Rattle.io.proofs.Counting.{counts}
 use Rattle.model.specs.Programs.{lines, lineOf}
 use Rattle.put.specs.Put.{Put}
 use Rattle.text.specs.Answers.{asOutcome}
-use Rattle.text.specs.Told.{lostLines, mendText}
+use Rattle.text.specs.Told.{uncorrectableLines, mendText}
 use Rattle.text.specs.declared.found.Outcome.{Outcome}
 use Rattle.text.proofs.TextLaw.{put-more, text-put}
 use Rattle.text.proofs.told.mend_report.Statement.{statement}
@@ -39,13 +39,13 @@ unfolding mendText
 returns-3 c =
     let a = c .before .before .before .before .before .before .before .before .args in
     let line = c .before .before .before .before .before .before .put-outcome in
-    let lost = c .put-lost in
+    let uncorrectable = c .put-uncorrectable-line in
     let e = c .before .before .before .before .outcome .given .1 in
     let first = subst (λ (o : Outcome). Put (a .out .now) 0 (lines (lineOf (asOutcome o []) ∷ [])) (line .result) (line .last .0)) e (line .ensures .0) in
-    let second = subst (λ (n : ℕ). Put (line .last .0) (line .result) (lines (lostLines n)) (lost .result) (lost .last .0)) (c .before .uncorrectable-in .ensures) (lost .ensures .0) in
+    let second = subst (λ (n : ℕ). Put (line .last .0) (line .result) (lines (uncorrectableLines n)) (uncorrectable .result) (uncorrectable .last .0)) (c .before .uncorrectable-in .ensures) (uncorrectable .ensures .0) in
     let put = put-more (a .out .now) 0 _ _ first second in
     let l = text-put (a .out .now) _ _ put (ap (λ (o : Outcome). mendText (asOutcome o [])) (sym e)) in
-    (l .0, (l .1, counts _ _ (omega (arith, line .ensures .1, lost .ensures .1, put .long))))
+    (l .0, (l .1, counts _ _ (omega (arith, line .ensures .1, uncorrectable .ensures .1, put .long))))
 
 pub mend-report-spec : {M : Type 1} → statement M
 mend-report-spec =

@@ -1,0 +1,46 @@
+-- What is wrong with an image, and the exit status that says so. (FORMAT 14)
+use mathlib.Core.Bool.{Bool, true, false, not, _||_}
+use mathlib.Core.Option.{Option, none, some}
+use Prim.Native.Nat.{ℕ}
+use lib.Dec.{ltb}
+use Rattle.model.specs.Scan.{Report}
+use Rattle.scan.specs.Answers.{asScan}
+use Rattle.text.specs.Told.{uncorrectableIn}
+use Rattle.text.specs.declared.found.Found.{Found}
+use Rattle.text.specs.declared.found.Found.the-variants as found
+use Rattle.text.specs.declared.found.Outcome.{Outcome}
+use Rattle.text.specs.declared.found.Outcome.the-variants as outcome
+use Rattle.messages.specs.declared.verdict.Verdict.{Verdict}
+use Rattle.messages.specs.declared.verdict.Verdict.the-variants.{Sound, Damaged, TooLong, Refused}
+
+abbrev pub damagedIn : Option Report → Bool
+damagedIn none = false
+damagedIn (some r) = ltb 0 (r .corrected) || ltb 0 (r .uncorrectable)
+
+abbrev pub verdictIf : Bool → Verdict
+verdictIf true = Damaged
+verdictIf false = Sound
+
+-- of an image as it is: a copy of the header that is to be mended, or a word that is, or cannot be
+abbrev pub reportVerdict : Found → Verdict
+reportVerdict found.TooLong = TooLong
+reportVerdict (found.Refused r) = Refused r
+reportVerdict (found.Image f) = verdictIf (f .«needs_scrub» || damagedIn (asScan (f .report)))
+
+-- of what mend leaves: a word that it could not correct
+abbrev pub mendingVerdict : Outcome → Verdict
+mendingVerdict outcome.TooLong = TooLong
+mendingVerdict (outcome.Refused r) = Refused r
+mendingVerdict (outcome.Mended m) = verdictIf (ltb 0 (uncorrectableIn (asScan (m .report))))
+
+-- in place, an image that mending did not change is not written
+abbrev pub writesFile : Outcome → Bool → Bool
+writesFile outcome.TooLong inPlace = false
+writesFile (outcome.Refused r) inPlace = false
+writesFile (outcome.Mended m) inPlace = not inPlace || ltb 0 (m .stored)
+
+abbrev pub statusOf : Verdict → ℕ
+statusOf Sound = 0
+statusOf Damaged = 1
+statusOf TooLong = 2
+statusOf (Refused r) = 2
