@@ -1,35 +1,26 @@
 // Where a region lies, by its kind and by its place in the directory. (FORMAT 6)
 ghost use mathlib.Core.Path.{_≡_};
-ghost use Rattle.model.specs.Layout.{count, start, end};
+ghost use Rattle.model.specs.Layout.{count};
 ghost use Rattle.model.specs.Parse.{parse};
 ghost use Rattle.model.specs.Views.{findRegion, regionAt};
-ghost use Rattle.layout.specs.Regions.{asEntry};
 ghost use Rattle.view.specs.Answers.{foundAs};
 ghost use Rattle.kw.specs.Numbers.{refusalNumber};
 ghost use Rattle.kw.specs.Regions.{placeNumbers, regionNumbers, entryNumbers, regionAtNumbers, asFound};
-use layout::Region;
 use view::Header;
 use view::ParseResult;
 use view::RegionAt;
-
-fn first_byte(region: Region) -> u64
-    ensures { λ r. ⌜ r ≡ start (asEntry region) ⌝ }
-{
-    8 * (region.word_offset as u64)
-}
-
-fn byte_past(region: Region) -> u64
-    ensures { λ r. ⌜ r ≡ end (asEntry region) ⌝ }
-{
-    8 * (region.word_offset as u64 + region.word_length as u64)
-}
 
 // {1, first byte, byte past the last, flags}, or zeros for nothing.
 fn place_numbers(found: RegionAt) -> [u64; 4]
     ensures { λ r. ⌜ r ≡ placeNumbers (asFound found) ⌝ }
 {
     match found {
-        RegionAt::Found(r) => [1, first_byte(r), byte_past(r), r.flags as u64],
+        RegionAt::Found(r) => [
+            1,
+            r.byte_offset() as u64,
+            r.byte_end() as u64,
+            r.flags as u64,
+        ],
         RegionAt::Nothing => [0, 0, 0, 0],
     }
 }
@@ -43,8 +34,8 @@ fn entry_numbers(found: RegionAt) -> [u64; 6]
             1,
             r.kind as u64,
             r.flags as u64,
-            first_byte(r),
-            byte_past(r),
+            r.byte_offset() as u64,
+            r.byte_end() as u64,
             r.covers as u64,
         ],
         RegionAt::Nothing => [0, 0, 0, 0, 0, 0],

@@ -8,6 +8,7 @@ use Rattle.layout.specs.declared.Size.the-variants.{Of, Nothing}
 use Rattle.layout.specs.Sizes.{asModel}
 use Rattle.layout.proofs.Region.byte_offset.Reads as byte-offset
 use Rattle.layout.proofs.Region.byte_length.Reads as byte-length
+use Rattle.layout.proofs.Region.byte_end.Reads as byte-end
 use Rattle.layout.proofs.Region.is_encrypted.Reads as is-encrypted
 use Rattle.layout.proofs.Region.is_ecc_plane.Reads as is-ecc-plane
 use Rattle.layout.proofs.Region.has_ecc.Reads as has-ecc
@@ -29,6 +30,9 @@ one-answer-byte-offset κs a r r′ s s′ p q = agree p q
 
 pub one-answer-byte-length : OneAnswer byte-length.Learnt
 one-answer-byte-length κs a r r′ s s′ p q = agree p q
+
+pub one-answer-byte-end : OneAnswer byte-end.Learnt
+one-answer-byte-end κs a r r′ s s′ p q = agree p q
 
 pub one-answer-is-encrypted : OneAnswer is-encrypted.Learnt
 one-answer-is-encrypted κs a r r′ s s′ p q = agree p q

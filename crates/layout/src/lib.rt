@@ -1,7 +1,7 @@
 // The container's constants and limits, a directory entry as a value, and three sizes.
 ghost use mathlib.Core.Path.{_≡_};
 ghost use Prim.Native.Nat.{_*_};
-ghost use Rattle.model.specs.Layout.{isEncrypted, isPlane, hasParity, headerLength, wordsFor, headerBytes};
+ghost use Rattle.model.specs.Layout.{end, isEncrypted, isPlane, hasParity, headerLength, wordsFor, headerBytes};
 ghost use Rattle.model.specs.Scan.{isProtected};
 ghost use Rattle.layout.specs.Regions.{asEntry};
 ghost use Rattle.layout.specs.Sizes.{asModel};
@@ -65,6 +65,13 @@ impl Region {
         ensures { λ r. ⌜ r ≡ 8 * self .«word_length» ⌝ }
     {
         self.word_length as usize * WORD
+    }
+
+    // The byte after the last.
+    pub fn byte_end(self) -> usize
+        ensures { λ r. ⌜ r ≡ end (asEntry self) ⌝ }
+    {
+        (self.word_offset as usize + self.word_length as usize) * WORD
     }
 
     pub fn is_encrypted(self) -> bool

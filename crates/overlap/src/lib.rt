@@ -101,11 +101,10 @@ fn overlap_at(spans: &SpanTable, n: u16, i: u16, high: usize, region: Region) ->
     if region.word_length == 0 {
         return Overlap::Nothing;
     }
-    let offset = region.word_offset as usize;
-    if 8 * offset < header_length(n) {
+    if region.byte_offset() < header_length(n) {
         return Overlap::Header;
     }
-    if high <= offset {
+    if high <= region.word_offset as usize {
         return Overlap::Nothing;
     }
     let last = last_word(region);

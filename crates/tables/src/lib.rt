@@ -34,12 +34,14 @@ fn empty_at(bytes: &[u8], at: usize) -> &[u8]
 pub fn region_span(len: usize, region: Region) -> PartSpan
     ensures { λ r. ⌜ asSpan r ≡ bytesSpan len (asEntry region) ⌝ }
 {
-    let start = 8 * (region.word_offset as usize);
-    let end = start + 8 * (region.word_length as usize);
+    let end = region.byte_end();
     if len < end {
         return PartSpan::Refused(Refusal::RegionOutOfBounds { index: 0 });
     }
-    PartSpan::Bytes { start, end }
+    PartSpan::Bytes {
+        start: region.byte_offset(),
+        end,
+    }
 }
 
 // The very bytes of a region; none if refused.
@@ -63,16 +65,17 @@ pub fn records_span(len: usize, region: Region, stride: usize) -> PartSpan
     if stride % 8 != 0 {
         return PartSpan::Refused(Refusal::BadRecordStride);
     }
-    let start = 8 * (region.word_offset as usize);
-    let size = 8 * (region.word_length as usize);
-    let end = start + size;
+    let end = region.byte_end();
     if len < end {
         return PartSpan::Refused(Refusal::RegionOutOfBounds { index: 0 });
     }
-    if size % stride != 0 {
+    if region.byte_length() % stride != 0 {
         return PartSpan::Refused(Refusal::BadRecordStride);
     }
-    PartSpan::Bytes { start, end }
+    PartSpan::Bytes {
+        start: region.byte_offset(),
+        end,
+    }
 }
 
 pub fn records_bytes(bytes: &[u8], region: Region, stride: usize) -> &[u8]

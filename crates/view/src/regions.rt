@@ -11,7 +11,6 @@ ghost use Rattle.view.specs.Answers.{foundAs};
 use super::header::Header;
 use layout::FLAG_IS_ECC;
 use layout::Region;
-use layout::WORD;
 use layout::header_length;
 use tables::Place;
 use vote::entry_u16;
@@ -91,12 +90,14 @@ pub fn ecc_for(bytes: &[u8], header: Header, region: Region) -> Place
     }
     match plane_of(bytes, n, region.kind) {
         RegionAt::Found(plane) => {
-            let start = WORD * (plane.word_offset as usize);
-            let end = start + WORD * (plane.word_length as usize);
+            let end = plane.byte_end();
             if bytes.len() < end {
                 return Place::Nothing;
             }
-            Place::At { start, end }
+            Place::At {
+                start: plane.byte_offset(),
+                end,
+            }
         }
         RegionAt::Nothing => Place::Nothing,
     }

@@ -18,22 +18,28 @@ returns c = let g = c .before .before .args in λ es s. lies-empty (g .n) (asEnt
 
 returns-2 : tie.Need-returns-2
 returns-2 c =
-    let l = c .before .header-length .ensures in
-    let g = c .before .before .before .before .before .args in
+    let h = c .before in
+    let l = h .header-length .ensures in
+    let o = h .before .byte-offset .ensures in
+    let g = h .before .before .before .before .args in
     λ es s. lies-inside (g .n) (asEntry (g .region)) (take (g .i) es) (omega arith) (omega arith)
 
 returns-3 : tie.Need-returns-3
 returns-3 c =
-    let l = c .before .before .header-length .ensures in
-    let g = c .before .before .before .before .before .before .args in
+    let h = c .before .before .before in
+    let l = h .header-length .ensures in
+    let o = h .before .byte-offset .ensures in
+    let g = h .before .before .before .before .args in
     λ es s. lies-past (g .n) (asEntry (g .region)) es (now (g .spans)) (g .i) (g .high) s (omega arith) (omega arith)
 
 returns-4 : tie.Need-returns-4
 returns-4 c =
     let a = c .before .overlaps-any in
     let w = c .before .before .last-word in
-    let l = c .before .before .before .before .before .header-length .ensures in
-    let g = c .before .before .before .before .before .before .before .before .before .args in
+    let h = c .before .before .before .before .before .before in
+    let l = h .header-length .ensures in
+    let o = h .before .byte-offset .ensures in
+    let g = h .before .before .before .before .args in
     λ es s.
     lies-there (g .n) (asEntry (g .region)) es (now (g .spans)) (g .i) (g .high) s (omega arith) (omega arith) (omega arith) none
     (is-none (overlapsFrom (g .region .«word_offset») (w .result) (now (g .spans)) 0 (g .i)) (a .result) (c .if4 .taken) (a .ensures) ∙ ap (λ (m : ℕ). overlapsFrom (g .region .«word_offset») m (now (g .spans)) 0 (g .i)) (w .ensures))
@@ -41,8 +47,10 @@ returns-4 c =
 returns-5 : tie.Need-returns-5
 returns-5 c =
     let w = c .before .before .before .last-word in
-    let l = c .before .before .before .before .before .before .header-length .ensures in
-    let g = c .before .before .before .before .before .before .before .before .before .before .args in
+    let h = c .before .before .before .before .before .before .before in
+    let l = h .header-length .ensures in
+    let o = h .before .byte-offset .ensures in
+    let g = h .before .before .before .before .args in
     λ es s.
     c .lowest-overlap .ensures
     ∙ lies-there (g .n) (asEntry (g .region)) es (now (g .spans)) (g .i) (g .high) s (omega arith) (omega arith) (omega arith) _
@@ -53,10 +61,10 @@ overlap-at-spec =
     tie.close
     (tie.spec
     returns
-    (λ c. search needs)
-    (λ c. search needs)
+    (λ c κs. search needs)
     (λ c κs. search needs)
     returns-2
+    (λ c. search needs)
     returns-3
     (λ c κs. search needs)
     (λ c κs. search needs)

@@ -1,10 +1,12 @@
 -- `tables::records_span` meets its contract: the checks in their order. Assumes nothing.
-use mathlib.Core.Path.{_≡_}
-use Prim.Native.Nat.{_+_, _-_, _*_, _%_}
+use mathlib.Core.Path.{sym, ap, _∙_}
+use Prim.Native.Nat.{ℕ, _*_, _%_}
 use native.Mathlib.Omega.{arith}
 use borrow.Author.Needs.{needs}
 use borrow.Author.Tests.{eq-eqb, ne-eqb, lt-ltb, le-ltb}
+use Rattle.model.specs.Layout.{end}
 use Rattle.model.specs.Views.{tableSpan, tableVerdict}
+use Rattle.layout.specs.Regions.{asEntry}
 use Rattle.tables.proofs.records_span.Statement.{statement}
 use Rattle.tables.proofs.records_span.Tie as tie
 
@@ -19,24 +21,29 @@ returns-2 c = let g = c .before .before .args in rw (ne-eqb (g .stride) 0 (c .be
 returns-3 : tie.Need-returns-3
 unfolding tableSpan tableVerdict
 returns-3 c =
-    let k = c .before .before .before in
-    let g = k .before .before .args in
-    rw (ne-eqb (g .stride) 0 (k .before .if1 .left), eq-eqb (g .stride % 8) 0 (k .if2 .left), lt-ltb (g .len) (8 * (g .region .«word_offset» + g .region .«word_length»)) (omega arith))
+    let k = c .before in
+    let w = k .before in
+    let g = w .before .before .args in
+    rw (ne-eqb (g .stride) 0 (w .before .if1 .left), eq-eqb (g .stride % 8) 0 (w .if2 .left), lt-ltb (g .len) (end (asEntry (g .region))) (omega (arith, k .byte-end .ensures, c .if3 .taken)))
 
 returns-4 : tie.Need-returns-4
 unfolding tableSpan tableVerdict
 returns-4 c =
-    let k = c .before .before .before .before in
-    let g = k .before .before .args in
-    rw (ne-eqb (g .stride) 0 (k .before .if1 .left), eq-eqb (g .stride % 8) 0 (k .if2 .left), le-ltb (g .len) (8 * (g .region .«word_offset» + g .region .«word_length»)) (omega arith), ne-eqb (8 * g .region .«word_length» % g .stride) 0 (c .if4 .taken))
+    let z = c .before in
+    let k = z .before .before in
+    let w = k .before in
+    let g = w .before .before .args in
+    rw (ne-eqb (g .stride) 0 (w .before .if1 .left), eq-eqb (g .stride % 8) 0 (w .if2 .left), le-ltb (g .len) (end (asEntry (g .region))) (omega (arith, k .byte-end .ensures, z .before .if3 .left)), ne-eqb (8 * g .region .«word_length» % g .stride) 0 (λ q. c .if4 .taken (ap (λ (n : ℕ). n % g .stride) (z .byte-length .ensures) ∙ q)))
 
 returns-5 : tie.Need-returns-5
 unfolding tableSpan tableVerdict
 returns-5 c =
-    let k = c .before .before .before .before in
-    let g = k .before .before .args in
-    let e : 8 * g .region .«word_offset» + 8 * g .region .«word_length» ≡ 8 * (g .region .«word_offset» + g .region .«word_length») = omega arith in
-    rw (e, ne-eqb (g .stride) 0 (k .before .if1 .left), eq-eqb (g .stride % 8) 0 (k .if2 .left), le-ltb (g .len) (8 * (g .region .«word_offset» + g .region .«word_length»)) (omega arith), eq-eqb (8 * g .region .«word_length» % g .stride) 0 (c .if4 .left))
+    let y = c .before in
+    let z = y .before in
+    let k = z .before .before in
+    let w = k .before in
+    let g = w .before .before .args in
+    rw (k .byte-end .ensures, c .byte-offset .ensures, ne-eqb (g .stride) 0 (w .before .if1 .left), eq-eqb (g .stride % 8) 0 (w .if2 .left), le-ltb (g .len) (end (asEntry (g .region))) (omega (arith, k .byte-end .ensures, z .before .if3 .left)), eq-eqb (8 * g .region .«word_length» % g .stride) 0 (ap (λ (n : ℕ). n % g .stride) (sym (z .byte-length .ensures)) ∙ y .if4 .left))
 
 pub records-span-spec : {M : Type 1} → statement M
 records-span-spec =
@@ -44,12 +51,10 @@ records-span-spec =
     (tie.spec
     returns
     returns-2
-    (λ c. search needs)
-    (λ c. search needs)
-    (λ c. search needs)
-    (λ c. search needs)
-    (λ c. search needs)
+    (λ c κs. search needs)
     returns-3
+    (λ c κs. search needs)
     (λ c. search needs)
     returns-4
+    (λ c κs. search needs)
     returns-5)

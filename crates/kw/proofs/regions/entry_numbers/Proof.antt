@@ -12,7 +12,7 @@ returns : tie.Need-returns
 returns c =
     let found = c .before .before .before .before .before .before .found in
     let e = found .given .0 .0 in
-    ap₂ (λ (a b : ℕ). 1 ∷ e .kind ∷ e .flags ∷ a ∷ b ∷ e .covers ∷ []) (c .before .before .first-byte .ensures) (c .before .byte-past .ensures)
+    ap₂ (λ (a b : ℕ). 1 ∷ e .kind ∷ e .flags ∷ a ∷ b ∷ e .covers ∷ []) (c .before .before .byte-offset .ensures) (c .before .byte-end .ensures)
     ∙ told entryNumbers asFound refl (found .given .1)
 
 pub entry-numbers-spec : {M : Type 1} → statement M

@@ -11,7 +11,7 @@ use Rattle.kw.proofs.regions.place_numbers.Tie as tie
 returns : tie.Need-returns
 returns c =
     let found = c .before .before .before .before .found in
-    ap₂ (λ (a b : ℕ). 1 ∷ a ∷ b ∷ found .given .0 .0 .flags ∷ []) (c .before .before .first-byte .ensures) (c .before .byte-past .ensures)
+    ap₂ (λ (a b : ℕ). 1 ∷ a ∷ b ∷ found .given .0 .0 .flags ∷ []) (c .before .before .byte-offset .ensures) (c .before .byte-end .ensures)
     ∙ told placeNumbers asFound refl (found .given .1)
 
 pub place-numbers-spec : {M : Type 1} → statement M
