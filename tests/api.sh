@@ -34,7 +34,7 @@ left_out() { # TOOL
 
 # The example, called by the given words, says of every image what is expected.
 says() { # COMMAND...
-    for image in damaged beyond march one-row unprotected refused; do
+    for image in damaged uncorrectable march one-row unprotected refused; do
         echo "== $image"
         "$@" "tests/answers/programs/$image.kw" 2>&1
         echo "status $?"

@@ -290,8 +290,8 @@ fn lie_apart(work: &str, order: fn(u32) -> u32) -> bool {
 
 /// The number and the report.
 fn mend(image: &mut [u8]) -> (u32, [u64; 4]) {
-    let (number, [some, words, corrected, beyond, _, _]) = ffi_api::mend_in_place(image);
-    (number, [some, words, corrected, beyond])
+    let (number, [some, words, corrected, uncorrectable, _, _]) = ffi_api::mend_in_place(image);
+    (number, [some, words, corrected, uncorrectable])
 }
 
 fn report(report: Option<EccReport>) -> [u64; 4] {

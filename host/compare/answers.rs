@@ -155,5 +155,5 @@ pub fn report_numbers(report: Option<EccReport>) -> [u64; 4] {
 }
 
 pub fn three_numbers(counts: Option<[u64; 3]>) -> [u64; 4] {
-    counts.map_or([0; 4], |[words, corrected, beyond]| [1, words, corrected, beyond])
+    counts.map_or([0; 4], |[words, corrected, uncorrectable]| [1, words, corrected, uncorrectable])
 }

@@ -339,7 +339,7 @@ fn any_awkward(random: &mut Random, len: usize) -> Entry {
 }
 
 /// Protected regions that lie on one another, on their own and on other planes, on the header; two
-/// that share a plane; with words that are sound, corrected and beyond.
+/// that share a plane; with words that are sound, corrected and uncorrectable.
 fn shared(random: &mut Random, rounds: u64, each: &mut dyn FnMut(&[u8])) {
     let shapes: [&[Entry]; 10] = [
         // on its own plane, whole and in part; where its last word is the plane

@@ -37,7 +37,7 @@ struct Seen {
     whole: u64,
     not_whole: u64,
     with_a_store: u64,
-    corrected_and_beyond: u64,
+    corrected_and_uncorrectable: u64,
 }
 
 impl Seen {
@@ -46,28 +46,28 @@ impl Seen {
             self.refusals[number as usize] += 1;
             return;
         }
-        let [report, _, corrected, beyond, stored, whole] = answer;
+        let [report, _, corrected, uncorrectable, stored, whole] = answer;
         self.nothing += 1 - report;
         self.whole += whole;
         self.not_whole += report - whole;
         self.with_a_store += u64::from(stored > 0);
-        self.corrected_and_beyond += u64::from(corrected > 0 && beyond > 0);
+        self.corrected_and_uncorrectable += u64::from(corrected > 0 && uncorrectable > 0);
     }
 
     fn print(&self) {
         println!(
             "mend: {} whole, {} not whole, {} nothing; {} with a byte that moved, {} with words \
-             corrected and beyond; refusals 1 to 8 {:?}, 12 {}",
+             corrected and uncorrectable; refusals 1 to 8 {:?}, 12 {}",
             self.whole,
             self.not_whole,
             self.nothing,
             self.with_a_store,
-            self.corrected_and_beyond,
+            self.corrected_and_uncorrectable,
             &self.refusals[1..9],
             self.refusals[12]
         );
         let outcomes = [self.whole, self.not_whole, self.nothing, self.with_a_store];
-        assert!(outcomes.iter().all(|&times| times > 0) && self.corrected_and_beyond > 0);
+        assert!(outcomes.iter().all(|&times| times > 0) && self.corrected_and_uncorrectable > 0);
         let given = [1, 2, 3, 4, 5, 6, 7, 8, 12];
         assert!(given.iter().all(|&number| self.refusals[number] > 0));
     }
@@ -83,8 +83,8 @@ fn same(group: &mut Group, seen: &mut Seen, bytes: &[u8]) {
     group.same(&mended, &read, || format!("kw_mend {}", input()));
     region::same(group, bytes);
     if mended.0 == 0 {
-        let (_, [report, words, _, beyond, _, whole], left) = mended;
-        let settled = (0, [report, words, 0, beyond, 0, whole], left);
+        let (_, [report, words, _, uncorrectable, _, whole], left) = mended;
+        let settled = (0, [report, words, 0, uncorrectable, 0, whole], left);
         group.same(&ours::mend(&settled.2), &settled, || format!("kw_mend twice {}", input()));
     }
 }

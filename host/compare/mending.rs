@@ -23,7 +23,7 @@ pub fn mend(bytes: &[u8]) -> Mending {
     if let Some(named) = not_apart(&entries, bytes.len()) {
         return refused(bytes, 12, named as u64);
     }
-    let (mut words, mut corrected, mut beyond) = (0, 0, 0);
+    let (mut words, mut corrected, mut uncorrectable) = (0, 0, 0);
     for (word, check) in examined(&entries) {
         words += 1;
         match decode_word(word_at(bytes, word), bytes[check]) {
@@ -33,16 +33,16 @@ pub fn mend(bytes: &[u8]) -> Mending {
                 left[word..word + 8].copy_from_slice(&value.to_le_bytes());
                 left[check] = check_byte(value);
             }
-            WordStatus::Uncorrectable => beyond += 1,
+            WordStatus::Uncorrectable => uncorrectable += 1,
         }
     }
     let report = u64::from(covered(&entries).next().is_some());
     if count <= 12 {
-        beside_scrub(bytes, &left, &entries, [report, words, corrected, beyond]);
+        beside_scrub(bytes, &left, &entries, [report, words, corrected, uncorrectable]);
     }
     let stored = left.iter().zip(bytes).filter(|(new, old)| new != old).count() as u64;
-    let whole = u64::from(report == 1 && beyond == 0);
-    (0, [report, words, corrected, beyond, stored, whole], left)
+    let whole = u64::from(report == 1 && uncorrectable == 0);
+    (0, [report, words, corrected, uncorrectable, stored, whole], left)
 }
 
 fn refused(bytes: &[u8], number: u32, detail: u64) -> Mending {

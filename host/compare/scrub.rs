@@ -20,7 +20,7 @@ pub fn compare(run: &mut Run) {
         }
         let rows: Vec<(u16, u16, u32)> = (0..512).map(|kind| (kind, 2, 1)).collect();
         let mut bytes = images::planned(&mut run.random, &rows);
-        // a word to correct in the last protected region, and one beyond repair in the first
+        // a word to correct in the last protected region, and an uncorrectable one in the first
         bytes[49_200] ^= 6;
         bytes[49_200 + 8 * 511] ^= 1;
         same(group, &mut seen, &bytes);

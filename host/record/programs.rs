@@ -57,9 +57,9 @@ fn spoiled(prologues: &[u8], at: usize) -> Vec<u8> {
 fn case(name: &'static str, input: Vec<u8>) -> Case {
     let parsed = WireView::parse(&input);
     let report = match (api_numbers(parse_numbers(&input, &parsed)), api_scan(&parsed).1) {
-        ((0, [count, wanted]), [some, words, corrected, beyond]) => {
+        ((0, [count, wanted]), [some, words, corrected, uncorrectable]) => {
             let wanted = ["no", "yes"][wanted as usize];
-            let ecc = format!("{words} {corrected} {beyond}");
+            let ecc = format!("{words} {corrected} {uncorrectable}");
             let ecc = if some == 0 { "none".into() } else { ecc };
             format!("regions {count} scrub {wanted}\necc {ecc}\n")
         }

@@ -33,7 +33,7 @@ pub fn lines() -> Vec<String> {
 
 const SAMPLED: [&str; 2] = ["shared", "regions_on_the_header"];
 
-/// A damaged image that can be repaired, one with a word beyond repair, the image of 4 March, one
+/// A damaged image that can be repaired, one with an uncorrectable word, the image of 4 March, one
 /// that has no protected region, one that is refused.
 pub fn examples() -> Vec<(&'static str, Vec<u8>)> {
     let random = &mut Random::new(12);
@@ -41,15 +41,15 @@ pub fn examples() -> Vec<(&'static str, Vec<u8>)> {
     let payload = 48 + 48 * 5;
     damaged[20] ^= 4; // of the prologue's second copy
     damaged[payload + 17] ^= 0x20;
-    let mut beyond = damaged.clone();
-    beyond[payload + 3] ^= 0x11;
+    let mut uncorrectable = damaged.clone();
+    uncorrectable[payload + 3] ^= 0x11;
     let march = images::march(random).0;
     let unprotected = images::planned(random, &[(1, 0, 2)]);
     let mut refused = unprotected.clone();
     refused.truncate(111);
     vec![
         ("damaged", damaged),
-        ("beyond", beyond),
+        ("uncorrectable", uncorrectable),
         ("march", march),
         ("unprotected", unprotected),
         ("refused", refused),
