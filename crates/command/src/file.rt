@@ -1,7 +1,7 @@
 // Files by name, standard input and standard output.
 ghost use Rattle.io.specs.Counts.{Counts};
-use messages::FAILED;
-use messages::Verdict;
+use exit_status::FAILED;
+use exit_status::Verdict;
 use stdin::Input;
 
 // Says why the system failed at a file. It is called right after the call that failed.

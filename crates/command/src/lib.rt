@@ -9,7 +9,7 @@ use arguments::HELP;
 use arguments::Invocation;
 use arguments::MEND;
 use arguments::VERSION;
-use messages::FAILED;
+use exit_status::FAILED;
 
 // image takes one byte more than the longest image, so that a longer one shows; room is for later commands.
 #[no_mangle]

@@ -1,7 +1,7 @@
 // kw mend.
 use arguments::Invocation;
+use exit_status::FAILED;
 use layout::MAX_IMAGE_BYTES;
-use messages::FAILED;
 
 fn say(text: &[u8]) {
     io::write_all(libc::STDERR_FILENO, text);
@@ -10,7 +10,7 @@ fn say(text: &[u8]) {
 // What is said of the image comes last: not before all of it is written.
 fn mend_image(name: &[u8], target: &[u8], in_place: bool, image: &mut [u8]) -> u8 {
     let outcome = text::mend_within(image, MAX_IMAGE_BYTES);
-    if messages::is_written(outcome, in_place) {
+    if exit_status::is_written(outcome, in_place) {
         if !crate::save::save(target, image) {
             return FAILED;
         }
@@ -18,9 +18,9 @@ fn mend_image(name: &[u8], target: &[u8], in_place: bool, image: &mut [u8]) -> u
     let mut lines = [0u8; 128];
     let k = text::mend_report(outcome, &mut lines);
     say(&lines[..k]);
-    let verdict = messages::mending_verdict(outcome);
+    let verdict = exit_status::mending_verdict(outcome);
     crate::file::complain(name, verdict);
-    messages::status(verdict)
+    exit_status::status(verdict)
 }
 
 fn mend_file(name: &[u8], target: &[u8], in_place: bool, image: &mut [u8]) -> u8 {

@@ -1,15 +1,15 @@
 // kw report.
+use exit_status::FAILED;
 use layout::MAX_IMAGE_BYTES;
-use messages::FAILED;
 
 fn report_image(name: &[u8], image: &[u8], several: bool) -> u8 {
     let found = text::look(image, MAX_IMAGE_BYTES);
     let mut lines = [0u8; 8448];
     let k = text::file_report(name, several, found, &mut lines);
     let printed = crate::file::print(&lines[..k]);
-    let verdict = messages::report_verdict(found);
+    let verdict = exit_status::report_verdict(found);
     crate::file::complain(name, verdict);
-    messages::higher(printed, messages::status(verdict))
+    exit_status::higher(printed, exit_status::status(verdict))
 }
 
 fn report_file(name: &[u8], image: &mut [u8], several: bool) -> u8 {
@@ -34,7 +34,7 @@ fn report_argument(i: usize, image: &mut [u8], several: bool) -> u8 {
 // The status so far, with that of argument i if it is a file.
 fn report_if(is_file: bool, i: usize, image: &mut [u8], several: bool, status: u8) -> u8 {
     if is_file {
-        return messages::higher(status, report_argument(i, image, several));
+        return exit_status::higher(status, report_argument(i, image, several));
     }
     status
 }

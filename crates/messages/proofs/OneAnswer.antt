@@ -1,31 +1,11 @@
 -- No two answers fit one promise, nor two texts that are left. Assumes nothing.
 use denote.Ref.{now}
-use Rattle.model.proofs.OneAnswer.{OneAnswer, OneAnswerAnd, agree}
-use Rattle.messages.proofs.verdict.report_verdict.Reads as report-verdict
-use Rattle.messages.proofs.verdict.mending_verdict.Reads as mending-verdict
-use Rattle.messages.proofs.verdict.is_written.Reads as is-written
-use Rattle.messages.proofs.verdict.status.Reads as status
-use Rattle.messages.proofs.verdict.higher.Reads as higher
+use Rattle.model.proofs.OneAnswer.{OneAnswerAnd, agree}
 use Rattle.messages.proofs.complaint.refusal.Reads as refusal
 use Rattle.messages.proofs.complaint.subject.Reads as subject
 use Rattle.messages.proofs.usage.help.Reads as help
 use Rattle.messages.proofs.usage.version.Reads as version
 use Rattle.messages.proofs.usage.fault.Reads as fault
-
-pub one-answer-report-verdict : OneAnswer report-verdict.Learnt
-one-answer-report-verdict κs a r r′ s s′ p q = agree p q
-
-pub one-answer-mending-verdict : OneAnswer mending-verdict.Learnt
-one-answer-mending-verdict κs a r r′ s s′ p q = agree p q
-
-pub one-answer-is-written : OneAnswer is-written.Learnt
-one-answer-is-written κs a r r′ s s′ p q = agree p q
-
-pub one-answer-status : OneAnswer status.Learnt
-one-answer-status κs a r r′ s s′ p q = agree p q
-
-pub one-answer-higher : OneAnswer higher.Learnt
-one-answer-higher κs a r r′ s s′ p q = agree p q
 
 pub one-answer-refusal : OneAnswerAnd refusal.Learnt (λ κs s. now (s .1 .1 .0))
 one-answer-refusal κs a r r′ s s′ p q = (agree (p .0) (q .0), agree (p .1 .0) (q .1 .0))

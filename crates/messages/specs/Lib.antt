@@ -1,3 +1,2 @@
 pub mod Sentences
 pub mod Usages
-pub mod Verdicts

@@ -8,8 +8,8 @@ use lib.ListN.{length}
 use Rattle.model.specs.Programs.{text, decimal, lines}
 use Rattle.error.specs.declared.Refusal.{Refusal}
 use Rattle.error.specs.declared.Refusal.the-variants.{Truncated, BadMagic, ForeignEndian, UnsupportedVersion, BadPrologueChecksum, TooManyRegions, RegionOutOfBounds, DuplicateRegion, BadRecordStride, Overflow, TooLarge, OverlappingRegions, NoRoom, BadPlan}
-use Rattle.messages.specs.declared.verdict.Verdict.{Verdict}
-use Rattle.messages.specs.declared.verdict.Verdict.the-variants as verdict
+use Rattle.exit_status.specs.declared.Verdict.{Verdict}
+use Rattle.exit_status.specs.declared.Verdict.the-variants as verdict
 
 -- a number within a text
 abbrev pub around : String → ℕ → String → List ℕ

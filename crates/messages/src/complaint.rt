@@ -8,8 +8,8 @@ ghost use Rattle.io.specs.Counts.{Counts};
 ghost use Rattle.put.specs.Put.{Put};
 ghost use Rattle.model.specs.Programs.{decimal, lines};
 ghost use Rattle.messages.specs.Sentences.{sentence, tooLongSentence, naming, refusalText, subjectText};
-use crate::verdict::Verdict;
 use error::Refusal;
+use exit_status::Verdict;
 use put::put_bytes;
 use put::put_field;
 

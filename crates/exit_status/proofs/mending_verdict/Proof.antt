@@ -1,11 +1,11 @@
--- `messages::verdict::mending_verdict` meets its contract. Assumes nothing.
+-- `exit_status::mending_verdict` meets its contract. Assumes nothing.
 use mathlib.Core.Path.{sym, ap, _∙_}
 use Prim.Native.Nat.{ℕ}
 use borrow.Author.Needs.{needs}
 use lib.Dec.{ltb}
-use Rattle.messages.specs.Verdicts.{verdictIf, mendingVerdict}
-use Rattle.messages.proofs.verdict.mending_verdict.Statement.{statement}
-use Rattle.messages.proofs.verdict.mending_verdict.Tie as tie
+use Rattle.exit_status.specs.Verdicts.{verdictIf, mendingVerdict}
+use Rattle.exit_status.proofs.mending_verdict.Statement.{statement}
+use Rattle.exit_status.proofs.mending_verdict.Tie as tie
 
 returns-2 : tie.Need-returns-2
 returns-2 c = sym (ap mendingVerdict (c .before .outcome .given .1))

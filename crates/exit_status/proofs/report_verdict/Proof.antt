@@ -1,10 +1,10 @@
--- `messages::verdict::report_verdict` meets its contract. Assumes nothing.
+-- `exit_status::report_verdict` meets its contract. Assumes nothing.
 use mathlib.Core.Path.{sym, ap, _∙_}
 use mathlib.Core.Bool.{Bool, _||_}
 use borrow.Author.Needs.{needs}
-use Rattle.messages.specs.Verdicts.{verdictIf, reportVerdict}
-use Rattle.messages.proofs.verdict.report_verdict.Statement.{statement}
-use Rattle.messages.proofs.verdict.report_verdict.Tie as tie
+use Rattle.exit_status.specs.Verdicts.{verdictIf, reportVerdict}
+use Rattle.exit_status.proofs.report_verdict.Statement.{statement}
+use Rattle.exit_status.proofs.report_verdict.Tie as tie
 
 returns-2 : tie.Need-returns-2
 returns-2 c = sym (ap reportVerdict (c .before .found .given .1))

@@ -1,10 +1,10 @@
--- `messages::verdict::is_written` meets its contract. Assumes nothing.
+-- `exit_status::is_written` meets its contract. Assumes nothing.
 use mathlib.Core.Path.{sym, ap, _∙_}
 use borrow.Author.Needs.{needs}
 use Rattle.text.specs.declared.found.Outcome.{Outcome}
-use Rattle.messages.specs.Verdicts.{writesFile}
-use Rattle.messages.proofs.verdict.is_written.Statement.{statement}
-use Rattle.messages.proofs.verdict.is_written.Tie as tie
+use Rattle.exit_status.specs.Verdicts.{writesFile}
+use Rattle.exit_status.proofs.is_written.Statement.{statement}
+use Rattle.exit_status.proofs.is_written.Tie as tie
 
 returns-3 : tie.Need-returns-3
 returns-3 c = c .either .ensures ∙ sym (ap (λ (o : Outcome). writesFile o (c .before .before .before .before .before .args .in-place)) (c .before .before .before .outcome .given .1))

@@ -3,7 +3,7 @@ ghost use mathlib.Core.Path.{_≡_};
 ghost use mathlib.Core.Bool.{_||_};
 ghost use Prim.Native.Nat.{max};
 ghost use Rattle.scan.specs.Answers.{asScan};
-ghost use Rattle.messages.specs.Verdicts.{damagedIn, verdictIf, reportVerdict, mendingVerdict, writesFile, statusOf};
+ghost use Rattle.exit_status.specs.Verdicts.{damagedIn, verdictIf, reportVerdict, mendingVerdict, writesFile, statusOf};
 use error::Refusal;
 use scan::ScanResult;
 use text::Found;

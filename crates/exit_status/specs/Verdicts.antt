@@ -10,8 +10,8 @@ use Rattle.text.specs.declared.found.Found.{Found}
 use Rattle.text.specs.declared.found.Found.the-variants as found
 use Rattle.text.specs.declared.found.Outcome.{Outcome}
 use Rattle.text.specs.declared.found.Outcome.the-variants as outcome
-use Rattle.messages.specs.declared.verdict.Verdict.{Verdict}
-use Rattle.messages.specs.declared.verdict.Verdict.the-variants.{Sound, Damaged, TooLong, Refused}
+use Rattle.exit_status.specs.declared.Verdict.{Verdict}
+use Rattle.exit_status.specs.declared.Verdict.the-variants.{Sound, Damaged, TooLong, Refused}
 
 abbrev pub damagedIn : Option Report → Bool
 damagedIn none = false
