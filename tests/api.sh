@@ -69,7 +69,9 @@ installed() {
     bin=$work/dest/opt/kw/bin man=$work/dest/opt/kw/share/man
     "$bin/kw-report" <tests/answers/programs/damaged.kw | cmp - tests/answers/programs/damaged.report || return 1
     "$bin/kw-scrub" <tests/answers/programs/damaged.kw 2>"$work/line" | cmp - tests/answers/programs/damaged.scrub || return 1
-    "$bin/kw" version || return 1
+    version=$(sed -n 's/^#define KW_LIBRARY_VERSION_[A-Z]* //p' include/kw.h | paste -s -d.)
+    format=$(sed -n 's/.*KW_FORMAT_VERSION = \([0-9]*\),.*/\1/p' include/kw.h)
+    [ "$("$bin/kw" version)" = "kw $version, image format $format" ] || return 1
     for page in kw.1 kw-report.1 kw-scrub.1; do
         cmp "docs/man/$page" "$man/man1/$page" || return 1
     done
