@@ -4,6 +4,7 @@
 #   make demo       damage the sample, look at it, mend it, and see that it is as it was
 #   make test       the gate: prove all from nothing, compare with the Rust, run everything
 #   make check      the same
+#   make refused    see that each wrong program of crates/*/must-fail was refused where it is wrong; after rt ci
 #   make compare    run ours and the Rust on the same inputs (SEED=N for other random ones)
 #   make soak       the same with a hundred times the random inputs and a seed of its own
 #   make replay     hold ours against the recorded answers; needs no Rust
@@ -25,7 +26,7 @@
 MAKEFLAGS += --no-print-directory
 .NOTPARALLEL:
 .DELETE_ON_ERROR:
-.PHONY: all archives test check demo compare soak replay programs command api bench record recorded install uninstall clean help
+.PHONY: all archives test check refused demo compare soak replay programs command api bench record recorded install uninstall clean help
 
 ifeq ($(strip $(KW_ORACLE)),)
 KW_ORACLE = ../shared/docs/src
@@ -78,6 +79,9 @@ demo: bin/kw
 
 test check:
 	@sh tests/gate.sh
+
+refused:
+	@sh tests/refused.sh
 
 compare: host/build/compare
 	host/build/compare 10 $(SEED)

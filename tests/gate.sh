@@ -1,8 +1,9 @@
 #!/bin/sh
 # The gate, called by 'make test'. Every part runs, whatever became of the one before it. The last
-# line, 'N passed, M failed', counts what rt proved and refused, the cases compared, the lines
-# replayed, and the cases of the programs, the command and the C API. A part that fails, leaves no count or
-# counts nothing is a failure; the exit status is 0 only if M is 0.
+# line, 'N passed, M failed', counts what rt proved and refused, the wrong programs that were refused
+# where they are wrong, the cases compared, the lines replayed, and the cases of the programs, the
+# command and the C API. A part that fails, leaves no count or counts nothing is a failure; the exit
+# status is 0 only if M is 0.
 set -u
 cd "$(dirname "$0")/.." || exit 2
 : "${KW_ORACLE:?call this by make test}"
@@ -56,6 +57,9 @@ mkdir -p "$logs"
 
 part prove rt ci
 count '([0-9]+) passed, ([0-9]+) failed'
+
+part refused make refused
+count 'wrong programs ([0-9]+) passed, ([0-9]+) failed'
 
 part archives make archives
 must_end_well
