@@ -22,7 +22,7 @@ use Rattle.model.specs.Steps.{entryIn}
 use Rattle.layout.specs.declared.Region.{Region}
 use Rattle.layout.specs.Regions.{regionOf}
 use Rattle.layout.proofs.FlagLaw.{flag}
-use Rattle.vote.proofs.RegionLaw.{kind-front}
+use Rattle.view.proofs.RegionLaw.{kind-front}
 
 pub entriesFor-short : (n : ℕ) (x : List ℕ) → length x < headerLength n → entriesFor n x ≡ []
 unfolding entriesFor

@@ -15,7 +15,7 @@ use Rattle.model.specs.Layout.{Entry, voted, directoryBytesOf, directoryOf, ent
 use Rattle.model.specs.Parse.{among}
 use Rattle.model.proofs.LayoutLaw.{noEntry, entry-at, length-directoryOf}
 use Rattle.model.specs.Steps.{entryIn}
-use Rattle.vote.proofs.RegionLaw.{kind-front}
+use Rattle.view.proofs.RegionLaw.{kind-front}
 use Rattle.view.specs.Kinds.{kindsOf, elem}
 
 pub length-kinds : (es : List Entry) → length (kindsOf es) ≡ length es

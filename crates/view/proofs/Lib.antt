@@ -1,3 +1,4 @@
+pub mod RegionLaw
 pub mod KindsLaw
 pub mod AnswersLaw
 pub mod EntriesForLaw

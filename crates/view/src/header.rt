@@ -20,12 +20,12 @@ use layout::MAX_REGIONS;
 use layout::PROLOGUE_BYTES;
 use layout::WORD;
 use layout::header_length;
-use vote::copies_differ;
-use vote::entry_u16;
-use vote::entry_u32;
-use vote::voted_checksum;
-use vote::voted_u16;
-use vote::voted_u32;
+use crate::vote::copies_differ;
+use crate::vote::entry_u16;
+use crate::vote::entry_u32;
+use crate::vote::voted_checksum;
+use crate::vote::voted_u16;
+use crate::vote::voted_u32;
 
 // An accepted image's number of regions, and which header copies disagreed with their vote.
 pub struct Header {

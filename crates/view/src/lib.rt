@@ -1,6 +1,7 @@
 // The reader, after view.rs: parse and lookups over a caller's bytes.
 mod header;
 mod regions;
+mod vote;
 
 pub use header::Header;
 pub use header::ParseResult;

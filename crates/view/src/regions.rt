@@ -13,8 +13,8 @@ use layout::FLAG_IS_ECC;
 use layout::Region;
 use layout::header_length;
 use tables::Place;
-use vote::entry_u16;
-use vote::voted_region;
+use crate::vote::entry_u16;
+use crate::vote::voted_region;
 
 pub enum RegionAt {
     Found(Region),

@@ -1,4 +1,4 @@
--- `vote::copies_differ_at` meets its contract. Assumes nothing.
+-- `view::vote::copies_differ_at` meets its contract. Assumes nothing.
 use mathlib.Core.Path.{sym}
 use Prim.Native.Nat.{_+_, _-_}
 use borrow.Author.Needs.{needs}
@@ -7,8 +7,8 @@ use denote.Ref.{now}
 use Rattle.model.specs.Bytes.{at}
 use Rattle.model.proofs.CopiesLaw.{offAt}
 use borrow.Author.Needs.{needs}
-use Rattle.vote.proofs.copies_differ_at.Statement.{statement}
-use Rattle.vote.proofs.copies_differ_at.Tie as tie
+use Rattle.view.proofs.vote.copies_differ_at.Statement.{statement}
+use Rattle.view.proofs.vote.copies_differ_at.Tie as tie
 
 returns : tie.Need-returns
 unfolding offAt

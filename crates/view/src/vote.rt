@@ -27,7 +27,7 @@ fn vote_at(bytes: &[u8], base: usize, k: usize, j: usize) -> u8
 }
 
 // The number in the two voted bytes from p on.
-pub fn voted_u16(bytes: &[u8], base: usize, k: usize, p: usize) -> u16
+pub(crate) fn voted_u16(bytes: &[u8], base: usize, k: usize, p: usize) -> u16
     requires { ⌜ (base + 3 * k ≤ length (now bytes)) × (p + 2 ≤ k) ⌝ }
     ensures { λ r. ⌜ r ≡ read 2 (voted base k (now (bytes .entry))) p ⌝ }
 {
@@ -37,7 +37,7 @@ pub fn voted_u16(bytes: &[u8], base: usize, k: usize, p: usize) -> u16
 }
 
 // The number in the four voted bytes from p on.
-pub fn voted_u32(bytes: &[u8], base: usize, k: usize, p: usize) -> u32
+pub(crate) fn voted_u32(bytes: &[u8], base: usize, k: usize, p: usize) -> u32
     requires { ⌜ (base + 3 * k ≤ length (now bytes)) × (p + 4 ≤ k) ⌝ }
     ensures { λ r. ⌜ r ≡ read 4 (voted base k (now (bytes .entry))) p ⌝ }
 {
@@ -62,7 +62,7 @@ fn copies_differ_at(bytes: &[u8], base: usize, k: usize, j: usize) -> bool
 }
 
 // Some copy of k bytes from base on differs from the vote.
-pub fn copies_differ(bytes: &[u8], base: usize, k: usize) -> bool
+pub(crate) fn copies_differ(bytes: &[u8], base: usize, k: usize) -> bool
     requires { ⌜ base + 3 * k ≤ length (now bytes) ⌝ }
     ensures { λ r. ⌜ r ≡ differs (thrice (voted base k (now (bytes .entry)))) (drop base (now (bytes .entry))) ⌝ }
 {
@@ -77,7 +77,7 @@ pub fn copies_differ(bytes: &[u8], base: usize, k: usize) -> bool
 }
 
 // The checksum of the voted prologue's first twelve bytes.
-pub fn voted_checksum(bytes: &[u8]) -> u32
+pub(crate) fn voted_checksum(bytes: &[u8]) -> u32
     requires { ⌜ 48 ≤ length (now bytes) ⌝ }
     ensures { λ r. ⌜ r ≡ model.crc32 (take 12 (prologue (now (bytes .entry)))) ⌝ }
 {
@@ -91,7 +91,7 @@ pub fn voted_checksum(bytes: &[u8]) -> u32
 }
 
 // The number in the two bytes from byte `field` on of directory entry i of n.
-pub fn entry_u16(bytes: &[u8], n: usize, i: usize, field: usize) -> u16
+pub(crate) fn entry_u16(bytes: &[u8], n: usize, i: usize, field: usize) -> u16
     requires { ⌜ (headerLength n ≤ length (now bytes)) × (i < n) × (field + 2 ≤ 16) ⌝ }
     ensures { λ r. ⌜ r ≡ read 2 (voted 48 (16 * n) (now (bytes .entry))) (16 * i + field) ⌝ }
 {
@@ -100,7 +100,7 @@ pub fn entry_u16(bytes: &[u8], n: usize, i: usize, field: usize) -> u16
 }
 
 // The number in the four bytes from byte `field` on of directory entry i of n.
-pub fn entry_u32(bytes: &[u8], n: usize, i: usize, field: usize) -> u32
+pub(crate) fn entry_u32(bytes: &[u8], n: usize, i: usize, field: usize) -> u32
     requires { ⌜ (headerLength n ≤ length (now bytes)) × (i < n) × (field + 4 ≤ 16) ⌝ }
     ensures { λ r. ⌜ r ≡ read 4 (voted 48 (16 * n) (now (bytes .entry))) (16 * i + field) ⌝ }
 {
@@ -109,7 +109,7 @@ pub fn entry_u32(bytes: &[u8], n: usize, i: usize, field: usize) -> u32
 }
 
 // Directory entry i of n.
-pub fn voted_region(bytes: &[u8], n: usize, i: usize) -> Region
+pub(crate) fn voted_region(bytes: &[u8], n: usize, i: usize) -> Region
     requires { ⌜ (headerLength n ≤ length (now bytes)) × (i < n) ⌝ }
     ensures { λ r. ⌜ r ≡ regionOf (entryIn n (now (bytes .entry)) i) ⌝ }
 {

@@ -1,4 +1,4 @@
--- `vote::copies_differ` meets its contract. The invariant: no copy of a byte passed differs. Assumes nothing.
+-- `view::vote::copies_differ` meets its contract. The invariant: no copy of a byte passed differs. Assumes nothing.
 use mathlib.Core.Path.{_≡_, sym, _∙_}
 use mathlib.Core.Bool.{false}
 use Prim.Native.Nat.{ℕ, _-_, _≤_, _<_}
@@ -7,8 +7,8 @@ use borrow.Author.Needs.{needs}
 use borrow.Author.Count.{below-more}
 use denote.Ref.{now}
 use Rattle.model.proofs.CopiesLaw.{offAt, differs-none, differs-here}
-use Rattle.vote.proofs.copies_differ.Statement.{statement}
-use Rattle.vote.proofs.copies_differ.Tie as tie
+use Rattle.view.proofs.vote.copies_differ.Statement.{statement}
+use Rattle.view.proofs.vote.copies_differ.Tie as tie
 
 abbrev Inv-loop : tie.InvT-loop
 Inv-loop bytes base k j₀ j = (j ≤ k) × ((p : ℕ) → p < j → offAt base k bytes p ≡ false)

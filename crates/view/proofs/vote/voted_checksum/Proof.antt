@@ -1,4 +1,4 @@
--- `vote::voted_checksum` meets its contract. The invariant: the bytes passed are voted. Assumes nothing.
+-- `view::vote::voted_checksum` meets its contract. The invariant: the bytes passed are voted. Assumes nothing.
 use mathlib.Core.Path.{_≡_, sym, ap, _∙_}
 use Prim.Native.Nat.{ℕ, _-_, _≤_, _<_}
 use native.Mathlib.Omega.{arith}
@@ -12,8 +12,8 @@ use Rattle.model.specs.Bytes.{at}
 use Rattle.model.specs.Crc as model
 use Rattle.model.specs.Layout.{prologue}
 use Rattle.model.proofs.LayoutLaw.{length-prologue}
-use Rattle.vote.proofs.voted_checksum.Statement.{statement}
-use Rattle.vote.proofs.voted_checksum.Tie as tie
+use Rattle.view.proofs.vote.voted_checksum.Statement.{statement}
+use Rattle.view.proofs.vote.voted_checksum.Tie as tie
 
 -- the first twelve bytes of a list, known one by one
 twelve : (s v : List ℕ) → length s ≡ 12 → length v ≡ 16 → ((p : ℕ) → p < 12 → at s p ≡ at v p) → s ≡ take 12 v

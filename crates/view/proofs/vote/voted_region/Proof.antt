@@ -1,10 +1,10 @@
--- `vote::voted_region` meets its contract. Assumes nothing.
+-- `view::vote::voted_region` meets its contract. Assumes nothing.
 use Prim.Native.Nat.{_-_}
 use borrow.Author.Needs.{needs}
 use denote.Ref.{now}
-use Rattle.vote.proofs.RegionLaw.{region-read}
-use Rattle.vote.proofs.voted_region.Statement.{statement}
-use Rattle.vote.proofs.voted_region.Tie as tie
+use Rattle.view.proofs.RegionLaw.{region-read}
+use Rattle.view.proofs.vote.voted_region.Statement.{statement}
+use Rattle.view.proofs.vote.voted_region.Tie as tie
 
 returns : tie.Need-returns
 returns c =

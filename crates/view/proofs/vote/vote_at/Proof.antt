@@ -1,10 +1,10 @@
--- `vote::vote_at` meets its contract. Assumes nothing.
+-- `view::vote::vote_at` meets its contract. Assumes nothing.
 use mathlib.Core.Path.{sym, _∙_}
 use denote.Ref.{now}
 use Rattle.model.proofs.LayoutLaw.{at-voted}
 use borrow.Author.Needs.{needs}
-use Rattle.vote.proofs.vote_at.Statement.{statement}
-use Rattle.vote.proofs.vote_at.Tie as tie
+use Rattle.view.proofs.vote.vote_at.Statement.{statement}
+use Rattle.view.proofs.vote.vote_at.Tie as tie
 
 returns : tie.Need-returns
 returns c =
