@@ -9,6 +9,12 @@ ghost use Rattle.model.specs.Steps.{entryIn};
 ghost use Rattle.error.specs.Refused.{asCheck};
 ghost use Rattle.view.specs.Answers.{asCounted, withCount, asParsed};
 ghost use Rattle.view.specs.Kinds.{elem, kindsOf};
+use crate::vote::copies_differ;
+use crate::vote::entry_u16;
+use crate::vote::entry_u32;
+use crate::vote::voted_checksum;
+use crate::vote::voted_u16;
+use crate::vote::voted_u32;
 use error::Check;
 use error::Refusal;
 use layout::BOM;
@@ -20,12 +26,6 @@ use layout::MAX_REGIONS;
 use layout::PROLOGUE_BYTES;
 use layout::WORD;
 use layout::header_length;
-use crate::vote::copies_differ;
-use crate::vote::entry_u16;
-use crate::vote::entry_u32;
-use crate::vote::voted_checksum;
-use crate::vote::voted_u16;
-use crate::vote::voted_u32;
 
 // An accepted image's number of regions, and which header copies disagreed with their vote.
 pub struct Header {

@@ -9,12 +9,12 @@ ghost use Rattle.model.specs.Views.{regionAt, findRegion, firstThat, planeFor, 
 ghost use Rattle.tables.specs.Answers.{asPlace};
 ghost use Rattle.view.specs.Answers.{foundAs};
 use super::header::Header;
+use crate::vote::entry_u16;
+use crate::vote::voted_region;
 use layout::FLAG_IS_ECC;
 use layout::Region;
 use layout::header_length;
 use tables::Place;
-use crate::vote::entry_u16;
-use crate::vote::voted_region;
 
 pub enum RegionAt {
     Found(Region),

@@ -9,7 +9,7 @@ use Rattle.model.specs.Writer.{Row, rowEntries, planeEntries, rowWords, regions
 use Rattle.model.proofs.BytesLaw.{length-thrice}
 use Rattle.lemmas.proofs.ImageLaw.{length-entriesBytes, length-directory}
 use Rattle.lemmas.proofs.PlanCodewords.{length-planes}
-use Rattle.put_header.proofs.PrologueLaw.{prologues-length}
+use Rattle.writer.proofs.PrologueLaw.{prologues-length}
 
 -- one copy of the directory, the regions packed from word a on, the rows' words together w
 abbrev pub copyOf : ℕ → ℕ → List Row → List ℕ

@@ -8,6 +8,8 @@ ghost use Rattle.plan.specs.Kept.{rowsOf, Low, keptRows, Kept, sizesVerdict, ch
 ghost use Rattle.writer.specs.Answers.{Answered, Sized};
 ghost use Rattle.put.specs.Put.{Put};
 use super::planes::put_planes;
+use crate::directory::put_directories;
+use crate::prologue::put_prologues;
 use error::Check;
 use error::Refusal;
 use layout::MAX_REGIONS;
@@ -18,8 +20,6 @@ use plan::MARK_WORDS;
 use plan::PLAN_WORDS;
 use plan::check_sizes;
 use put::put_bytes;
-use put_header::put_directories;
-use put_header::put_prologues;
 
 pub enum WriteResult {
     // The image's length in bytes.

@@ -5,8 +5,10 @@ ghost use Rattle.model.specs.Writer as model;
 ghost use Rattle.plan.specs.Rows.{asPlan};
 ghost use Rattle.writer.specs.Answers.{asWritten, answerOf, bytesAfter};
 
+mod directory;
 mod image;
 mod planes;
+mod prologue;
 
 pub use image::WriteResult;
 use image::write_plan;

@@ -12,7 +12,7 @@ use Rattle.lemmas.proofs.PlanCodewords.{length-planes}
 use Rattle.plan.specs.Kept.{rowsOf}
 use Rattle.put.specs.Put.{Put}
 use Rattle.writer.proofs.ImageLaw.{copyOf, copy-is, copy-length, image-length}
-use Rattle.put_header.proofs.PrologueLaw.{prologues-length}
+use Rattle.writer.proofs.PrologueLaw.{prologues-length}
 use Rattle.put.proofs.PutLaw.{begin, go-on, last}
 use borrow.Author.Needs.{needs}
 use Rattle.writer.proofs.image.put_image.Statement.{statement}

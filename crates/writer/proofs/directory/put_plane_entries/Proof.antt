@@ -1,4 +1,4 @@
--- `put_header::directory::put_plane_entries` meets its contract. The invariant: the entries of the planes of i rows are put. Assumes nothing.
+-- `writer::directory::put_plane_entries` meets its contract. The invariant: the entries of the planes of i rows are put. Assumes nothing.
 use mathlib.Core.Path.{_≡_, sym, ap, _∙_, subst}
 use Prim.Native.Nat.{ℕ, _+_, _-_, _<_}
 use native.Mathlib.Omega.{arith}
@@ -10,9 +10,9 @@ use mathlib.Core.Logic.{⊎-elim}
 use Rattle.model.specs.Writer.{flagged, planeWords, planeEntry}
 use Rattle.plan.specs.Kept.{kindIn, rowOf}
 use Rattle.put.proofs.PutLaw.{kept-length, carry}
-use Rattle.put_header.proofs.EntriesLaw.{PlanesGo, planes-start, plane-room, plane-word, plane-put, plane-skip, planes-done}
-use Rattle.put_header.proofs.directory.put_plane_entries.Statement.{statement}
-use Rattle.put_header.proofs.directory.put_plane_entries.Tie as tie
+use Rattle.writer.proofs.EntriesLaw.{PlanesGo, planes-start, plane-room, plane-word, plane-put, plane-skip, planes-done}
+use Rattle.writer.proofs.directory.put_plane_entries.Statement.{statement}
+use Rattle.writer.proofs.directory.put_plane_entries.Tie as tie
 
 abbrev Inv-loop : tie.InvT-loop
 Inv-loop out₀ at rows first-word next₀ offset₀ i₀ out next offset i = PlanesGo out₀ at rows first-word out next offset i

@@ -1,12 +1,12 @@
--- `put_header::directory::put_row_entries` meets its contract. The invariant: the entries of i rows are put. Assumes nothing.
+-- `writer::directory::put_row_entries` meets its contract. The invariant: the entries of i rows are put. Assumes nothing.
 use Prim.Native.Nat.{_-_}
 use native.Mathlib.Omega.{arith}
 use borrow.Author.Needs.{needs}
 use lib.ListN.{length}
 use Rattle.put.proofs.PutLaw.{kept-length}
-use Rattle.put_header.proofs.EntriesLaw.{RowsGo, rows-start, row-room, row-word, row-put, rows-done}
-use Rattle.put_header.proofs.directory.put_row_entries.Statement.{statement}
-use Rattle.put_header.proofs.directory.put_row_entries.Tie as tie
+use Rattle.writer.proofs.EntriesLaw.{RowsGo, rows-start, row-room, row-word, row-put, rows-done}
+use Rattle.writer.proofs.directory.put_row_entries.Statement.{statement}
+use Rattle.writer.proofs.directory.put_row_entries.Tie as tie
 
 abbrev Inv-loop : tie.InvT-loop
 Inv-loop out₀ at rows first-word next₀ offset₀ i₀ out next offset i = RowsGo out₀ at rows first-word out next offset i

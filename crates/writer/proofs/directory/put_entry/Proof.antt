@@ -1,4 +1,4 @@
--- `put_header::directory::put_entry` meets its contract. Assumes nothing.
+-- `writer::directory::put_entry` meets its contract. Assumes nothing.
 use Prim.Native.Nat.{ℕ}
 use native.Mathlib.Omega.{arith}
 use denote.Ref.{now}
@@ -9,8 +9,8 @@ use Rattle.model.specs.Writer.{entryBytes}
 use Rattle.layout.specs.Regions.{asEntry}
 use Rattle.put.proofs.PutLaw.{Going, begin, go-on, last}
 use borrow.Author.Needs.{needs}
-use Rattle.put_header.proofs.directory.put_entry.Statement.{statement}
-use Rattle.put_header.proofs.directory.put_entry.Tie as tie
+use Rattle.writer.proofs.directory.put_entry.Statement.{statement}
+use Rattle.writer.proofs.directory.put_entry.Tie as tie
 
 put-u16-requires-2 : tie.Need-put-u16-requires-2
 unfolding leBytes

@@ -1,4 +1,4 @@
--- `put_header::prologue::put_prologue_start` meets its contract. Assumes nothing.
+-- `writer::prologue::put_prologue_start` meets its contract. Assumes nothing.
 use Prim.Native.Nat.{ℕ}
 use native.Mathlib.Omega.{arith}
 use denote.Ref.{now}
@@ -7,8 +7,8 @@ use Rattle.model.specs.Bytes.{leBytes}
 use Rattle.model.specs.Writer.{prologueStart}
 use Rattle.put.proofs.PutLaw.{Going, begin, go-on, last}
 use borrow.Author.Needs.{needs}
-use Rattle.put_header.proofs.prologue.put_prologue_start.Statement.{statement}
-use Rattle.put_header.proofs.prologue.put_prologue_start.Tie as tie
+use Rattle.writer.proofs.prologue.put_prologue_start.Statement.{statement}
+use Rattle.writer.proofs.prologue.put_prologue_start.Tie as tie
 
 put-u16-requires : tie.Need-put-u16-requires
 unfolding leBytes

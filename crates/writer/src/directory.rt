@@ -5,7 +5,7 @@ ghost use lib.ListN.{length};
 ghost use Rattle.model.specs.Bytes.{thrice};
 ghost use Rattle.model.specs.Writer.{rowWords, planesWords, rowEntry, planeEntry, rowEntries, planeEntries, entryBytes, entriesBytes};
 ghost use Rattle.plan.specs.Kept.{kindIn, rowOf, rowsOf, Low};
-ghost use Rattle.put_header.specs.Directory.{directoryBytes};
+ghost use Rattle.writer.specs.Directory.{directoryBytes};
 ghost use Rattle.put.specs.Put.{Put};
 ghost use Rattle.layout.specs.Regions.{asEntry};
 use ecc::ECC_KIND_BIT;
@@ -21,7 +21,7 @@ use put::put_u16;
 use put::put_u32;
 
 // The copies from `at` on, of rows whose regions start at word `first_word` and whose planes start at word `plane_word`.
-pub fn put_directories(
+pub(crate) fn put_directories(
     out: &mut [u8],
     at: usize,
     rows: &[u64],

@@ -1,4 +1,4 @@
--- `put_header::prologue::put_prologue` meets its contract. Assumes nothing.
+-- `writer::prologue::put_prologue` meets its contract. Assumes nothing.
 use mathlib.Core.Path.{_≡_, ap, _∙_, subst}
 use Prim.Native.Nat.{ℕ}
 use native.Mathlib.Omega.{arith}
@@ -13,8 +13,8 @@ use Rattle.lemmas.proofs.ImageLaw.{length-prologueStart}
 use Rattle.put.specs.Put.{Put}
 use Rattle.put.proofs.PutLaw.{Going, begin, go-on, last, put-read}
 use borrow.Author.Needs.{needs}
-use Rattle.put_header.proofs.prologue.put_prologue.Statement.{statement}
-use Rattle.put_header.proofs.prologue.put_prologue.Tie as tie
+use Rattle.writer.proofs.prologue.put_prologue.Statement.{statement}
+use Rattle.writer.proofs.prologue.put_prologue.Tie as tie
 
 part-crc32-end : tie.Need-part-crc32-end
 unfolding prologueStart leBytes

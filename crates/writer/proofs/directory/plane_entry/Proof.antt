@@ -1,9 +1,9 @@
--- `put_header::directory::plane_entry` meets its contract. Assumes nothing.
+-- `writer::directory::plane_entry` meets its contract. Assumes nothing.
 use Prim.Native.Nat.{_+_}
 use Rattle.model.specs.Writer.{planeEntry}
 use borrow.Author.Needs.{needs}
-use Rattle.put_header.proofs.directory.plane_entry.Statement.{statement}
-use Rattle.put_header.proofs.directory.plane_entry.Tie as tie
+use Rattle.writer.proofs.directory.plane_entry.Statement.{statement}
+use Rattle.writer.proofs.directory.plane_entry.Tie as tie
 
 returns : tie.Need-returns
 unfolding planeEntry

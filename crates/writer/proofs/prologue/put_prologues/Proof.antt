@@ -1,4 +1,4 @@
--- `put_header::prologue::put_prologues` meets its contract. Assumes nothing.
+-- `writer::prologue::put_prologues` meets its contract. Assumes nothing.
 use Prim.Native.Nat.{ℕ}
 use native.Mathlib.Omega.{arith}
 use denote.Ref.{now}
@@ -6,11 +6,11 @@ use mathlib.Core.List.{List, _++_}
 use Rattle.model.specs.Writer.{prologueBytes}
 use Rattle.model.specs.Bytes.{thrice}
 use Rattle.lemmas.proofs.ImageLaw.{length-prologueBytes}
-use Rattle.put_header.proofs.PrologueLaw.{prologues-length}
+use Rattle.writer.proofs.PrologueLaw.{prologues-length}
 use Rattle.put.proofs.PutLaw.{begin, go-on, last}
 use borrow.Author.Needs.{needs}
-use Rattle.put_header.proofs.prologue.put_prologues.Statement.{statement}
-use Rattle.put_header.proofs.prologue.put_prologues.Tie as tie
+use Rattle.writer.proofs.prologue.put_prologues.Statement.{statement}
+use Rattle.writer.proofs.prologue.put_prologues.Tie as tie
 
 put-prologue-requires-2 : tie.Need-put-prologue-requires-2
 put-prologue-requires-2 c κs = let a = c .before .before .before .before .before .before .args in omega (arith, length-prologueBytes (a .regions) (a .flags))

@@ -1,4 +1,4 @@
--- `put_header::directory::put_directory` meets its contract. Assumes nothing.
+-- `writer::directory::put_directory` meets its contract. Assumes nothing.
 use mathlib.Core.Path.{ap, subst}
 use Prim.Native.Nat.{ℕ}
 use native.Mathlib.Omega.{arith}
@@ -11,8 +11,8 @@ use Rattle.lemmas.proofs.ImageLaw.{entriesBytes-append}
 use Rattle.plan.specs.Kept.{rowsOf}
 use Rattle.put.proofs.PutLaw.{Going, begin, go-on, last}
 use borrow.Author.Needs.{needs}
-use Rattle.put_header.proofs.directory.put_directory.Statement.{statement}
-use Rattle.put_header.proofs.directory.put_directory.Tie as tie
+use Rattle.writer.proofs.directory.put_directory.Statement.{statement}
+use Rattle.writer.proofs.directory.put_directory.Tie as tie
 
 put-row-entries-requires : tie.Need-put-row-entries-requires
 put-row-entries-requires c κs =

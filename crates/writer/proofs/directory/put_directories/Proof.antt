@@ -1,4 +1,4 @@
--- `put_header::directory::put_directories` meets its contract. Assumes nothing.
+-- `writer::directory::put_directories` meets its contract. Assumes nothing.
 use mathlib.Core.Path.{refl}
 use Prim.Native.Nat.{ℕ}
 use native.Mathlib.Omega.{arith}
@@ -11,8 +11,8 @@ use Rattle.model.proofs.BytesLaw.{length-thrice}
 use Rattle.plan.specs.Kept.{rowsOf}
 use Rattle.put.proofs.PutLaw.{begin, go-on, last}
 use borrow.Author.Needs.{needs}
-use Rattle.put_header.proofs.directory.put_directories.Statement.{statement}
-use Rattle.put_header.proofs.directory.put_directories.Tie as tie
+use Rattle.writer.proofs.directory.put_directories.Statement.{statement}
+use Rattle.writer.proofs.directory.put_directories.Tie as tie
 
 put-directory-requires : tie.Need-put-directory-requires
 put-directory-requires c κs = let g = c .before .before .before in (omega (arith, g .pre .0), g .pre .1, g .pre .2, g .pre .3)

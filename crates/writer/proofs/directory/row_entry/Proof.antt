@@ -1,8 +1,8 @@
--- `put_header::directory::row_entry` meets its contract. Assumes nothing.
+-- `writer::directory::row_entry` meets its contract. Assumes nothing.
 use borrow.Author.Needs.{needs}
 use Rattle.model.specs.Writer.{rowEntry}
-use Rattle.put_header.proofs.directory.row_entry.Statement.{statement}
-use Rattle.put_header.proofs.directory.row_entry.Tie as tie
+use Rattle.writer.proofs.directory.row_entry.Statement.{statement}
+use Rattle.writer.proofs.directory.row_entry.Tie as tie
 
 returns : tie.Need-returns
 returns c = λ j. rowEntry (c .before .before .before .args .offset) (record { kind = c .before .before .kind-of .ensures j; flags = c .before .flags-of .ensures j; words = c .words-of .ensures j })

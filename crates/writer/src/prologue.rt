@@ -12,7 +12,7 @@ use put::put_u16;
 use put::put_u32;
 
 // The three copies of the prologue, from the front of `out` on.
-pub fn put_prologues(out: &mut [u8], regions: u16, flags: u16) -> usize
+pub(crate) fn put_prologues(out: &mut [u8], regions: u16, flags: u16) -> usize
     requires { ⌜ 48 ≤ length (now out) ⌝ }
     ensures { λ r. ⌜ Put (now (out .entry)) 0 (thrice (prologueBytes regions flags)) r (now (out .exit)) ⌝ }
 {

@@ -1,3 +1,0 @@
-pub mod EntriesLaw
-pub mod OneAnswer
-pub mod PrologueLaw
