@@ -23,14 +23,14 @@ abbrev pub reportNumbers : Option Report → List ℕ
 reportNumbers (some r) = 1 ∷ r .words ∷ r .corrected ∷ r .uncorrectable ∷ []
 reportNumbers none = 0 ∷ 0 ∷ 0 ∷ 0 ∷ []
 
--- the same of an accepted image, or the refusal's detail
+-- the report's numbers of an accepted image, or the refusal's detail
 abbrev pub scanNumbers : Parsed → Option Report → List ℕ
 scanNumbers (accepted h) s = reportNumbers s
 scanNumbers (refused n d) s = d ∷ 0 ∷ 0 ∷ 0 ∷ []
 
 -- ---- mend
 
--- the same, what was stored, and whether the image is whole
+-- the report's numbers, how many bytes were stored, and whether the image is whole
 abbrev pub mendingNumbers : Option Report → ℕ → Bool → List ℕ
 mendingNumbers s k w = reportNumbers s ++ k ∷ num w ∷ []
 

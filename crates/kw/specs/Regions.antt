@@ -16,7 +16,7 @@ abbrev pub placeNumbers : Option Entry → List ℕ
 placeNumbers (some e) = 1 ∷ start e ∷ end e ∷ e .flags ∷ []
 placeNumbers none = 0 ∷ 0 ∷ 0 ∷ 0 ∷ []
 
--- the same of an accepted image, or the refusal's detail
+-- a region's numbers in an accepted image, or the refusal's detail
 abbrev pub regionNumbers : Parsed → Option Entry → List ℕ
 regionNumbers (accepted h) o = placeNumbers o
 regionNumbers (refused n d) o = d ∷ 0 ∷ 0 ∷ 0 ∷ []
@@ -28,7 +28,7 @@ abbrev pub entryNumbers : Option Entry → List ℕ
 entryNumbers (some e) = 1 ∷ e .kind ∷ e .flags ∷ start e ∷ end e ∷ e .covers ∷ []
 entryNumbers none = 0 ∷ 0 ∷ 0 ∷ 0 ∷ 0 ∷ 0 ∷ []
 
--- the same of an accepted image, or the refusal's detail
+-- an entry's numbers in an accepted image, or the refusal's detail
 abbrev pub regionAtNumbers : Parsed → Option Entry → List ℕ
 regionAtNumbers (accepted h) o = entryNumbers o
 regionAtNumbers (refused n d) o = d ∷ 0 ∷ 0 ∷ 0 ∷ 0 ∷ 0 ∷ []

@@ -19,7 +19,7 @@ tableOf x k = cond (isTable (length x) k) x []
 abbrev pub strideOf : List ℕ → ℕ → ℕ
 strideOf x k = cond (isTable (length x) k) k 0
 
--- of a table's bytes and stride: how many records, whether none, the stride
+-- what a table of these bytes and this stride says: how many records, whether none, the stride
 abbrev pub tableNumbers : List ℕ → ℕ → List ℕ
 tableNumbers x k = recordCount (length x) k ∷ num (eqb (recordCount (length x) k) 0) ∷ k ∷ []
 

@@ -4,7 +4,7 @@ use mathlib.Core.List.{List, [], _∷_}
 use mathlib.Core.Option.{Option, none, some}
 use Prim.Native.Nat.{ℕ, _*_}
 use Rattle.bits.specs.Bit.{num}
-use Rattle.model.specs.Layout.{isEncrypted, isPlane, hasParity}
+use Rattle.model.specs.Layout.{isEncrypted, isPlane, hasEcc}
 use Rattle.model.specs.Parity.{Outcome, cleanWord, correctedWord, uncorrectableWord}
 use Rattle.model.specs.Scan.{Report}
 
@@ -16,7 +16,7 @@ asNumbers none = 0 ∷ 0 ∷ []
 -- of an entry's flags, offset and length in words: offset and length in bytes, and whether it is encrypted, a plane, protected
 abbrev pub regionNumbers : ℕ → ℕ → ℕ → List ℕ
 regionNumbers flags offset words =
-    8 * offset ∷ 8 * words ∷ num (isEncrypted flags) ∷ num (isPlane flags) ∷ num (hasParity flags) ∷ []
+    8 * offset ∷ 8 * words ∷ num (isEncrypted flags) ∷ num (isPlane flags) ∷ num (hasEcc flags) ∷ []
 
 -- how a word was decoded, and to what
 abbrev pub outcomeNumbers : Outcome → List ℕ

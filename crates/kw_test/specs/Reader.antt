@@ -22,7 +22,7 @@ abbrev pub entryNumbers : Option Entry → List ℕ
 entryNumbers (some e) = 1 ∷ e .kind ∷ e .flags ∷ e .offset ∷ e .words ∷ e .covers ∷ []
 entryNumbers none = 0 ∷ 0 ∷ 0 ∷ 0 ∷ 0 ∷ 0 ∷ []
 
--- the same of what a lookup hands out
+-- 1 and the fields of the region that a lookup hands out, or zeros
 abbrev pub foundNumbers : RegionAt → List ℕ
 foundNumbers (Found r) = 1 ∷ r .kind ∷ r .flags ∷ r .«word_offset» ∷ r .«word_length» ∷ r .covers ∷ []
 foundNumbers Nothing = 0 ∷ 0 ∷ 0 ∷ 0 ∷ 0 ∷ 0 ∷ []

@@ -1,7 +1,7 @@
 // The container's constants and limits, a directory entry as a value, and three sizes.
 ghost use mathlib.Core.Path.{_≡_};
 ghost use Prim.Native.Nat.{_*_};
-ghost use Rattle.model.specs.Layout.{end, isEncrypted, isPlane, hasParity, headerLength, wordsFor, headerBytes};
+ghost use Rattle.model.specs.Layout.{end, isEncrypted, isPlane, hasEcc, headerLength, wordsFor, headerBytes};
 ghost use Rattle.model.specs.Scan.{isProtected};
 ghost use Rattle.layout.specs.Regions.{asEntry};
 ghost use Rattle.layout.specs.Sizes.{asModel};
@@ -87,7 +87,7 @@ impl Region {
     }
 
     pub fn has_ecc(self) -> bool
-        ensures { λ r. ⌜ r ≡ hasParity (self .flags) ⌝ }
+        ensures { λ r. ⌜ r ≡ hasEcc (self .flags) ⌝ }
     {
         self.flags & FLAG_ECC_PRESENT != 0
     }

@@ -10,7 +10,7 @@ use borrow.Author.Tests.{ltb-false, lt-ltb}
 use lib.Dec.{ltb}
 use lib.ListN.{length}
 use Rattle.model.specs.Refusals.{fine}
-use Rattle.model.specs.Layout.{Entry, headerLength, isPlane, hasParity, count, directory}
+use Rattle.model.specs.Layout.{Entry, headerLength, isPlane, hasEcc, count, directory}
 use Rattle.model.specs.Parse.{parseVerdict}
 use Rattle.model.specs.Scan.{planeOf, Codeword, codewordsFrom, isProtected, visitWith, visitOf, visitsOver, visits, wordsOf, codewordsIn, Among, here, later, codewords}
 use Rattle.model.specs.Mend.{meets, meetsAny, inHeader, apartVerdict, mendVerdict}
@@ -115,7 +115,7 @@ pub record OriginIn (all es : List Entry) (q c : ℕ) : Type 0 where
 
 protected-codewords : (len : ℕ) (all : List Entry) (e : Entry) {q c : ℕ} → Among q c (codewordsIn (visitOf len all e)) → Origin all e q c
 unfolding visitOf isProtected codewordsIn
-protected-codewords len all e m = go (isPlane (e .flags)) refl (hasParity (e .flags)) m
+protected-codewords len all e m = go (isPlane (e .flags)) refl (hasEcc (e .flags)) m
   where
     go : {q c : ℕ} (t : Bool) → isPlane (e .flags) ≡ t → (u : Bool) → Among q c (codewordsIn (cond (not t && u) (visitWith e (planeOf len all e)) [])) → Origin all e q c
     go true h u i = elim i [ ]
@@ -223,7 +223,7 @@ module _ (len n : ℕ) (all : List Entry) (ok : EntriesOK len all) (apart : Laid
 
   region-apart : (e : Entry) → In e all → AllApart len (codewordsIn (visitOf len all e))
   unfolding visitOf isProtected codewordsIn wordsOf
-  region-apart e m = go (isPlane (e .flags)) refl (hasParity (e .flags)) (planeOf len all e) refl
+  region-apart e m = go (isPlane (e .flags)) refl (hasEcc (e .flags)) (planeOf len all e) refl
     where
       go : (t : Bool) → isPlane (e .flags) ≡ t → (u : Bool) (r : Option Entry) → planeOf len all e ≡ r → AllApart len (codewordsIn (cond (not t && u) (visitWith e r) []))
       go true h u r g = AllApart.nil

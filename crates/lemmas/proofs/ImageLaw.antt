@@ -14,7 +14,7 @@ use Rattle.model.specs.Layout.{voted, prologue, countIn, count, headerLength, d
 use Rattle.model.specs.Parse.{prologueVerdict, parseVerdict}
 use Rattle.model.specs.Scan.{visits, Among, codewordsIn, codewords}
 use Rattle.model.specs.Mend.{mendVerdict}
-use Rattle.model.specs.Writer.{Row, flagged, planeWords, rowEntry, rowEntries, planeEntry, planeEntries, rowWords, planesWords, planes, regions, firstWord, planDirectory, entryBytes, entriesBytes, prologueStart, prologueBytes, checks, planeBytes, planesBytes, planImage, imageLength}
+use Rattle.model.specs.Writer.{Row, protectedRow, planeWords, rowEntry, rowEntries, planeEntry, planeEntries, rowWords, planesWords, planes, regions, firstWord, planDirectory, entryBytes, entriesBytes, prologueStart, prologueBytes, checks, planeBytes, planesBytes, planImage, imageLength}
 use Rattle.model.proofs.BytesLaw.{read-leBytes, at-left, at-right, length-thrice}
 use Rattle.model.proofs.ParseLaw.{good-prologue, entries-say}
 use Rattle.model.specs.Steps.{anyOf}
@@ -88,7 +88,7 @@ length-rows a (r ∷ rs) = ap suc (length-rows (a + r .words) rs)
 length-plane-entries : (a : ℕ) (rs : List Row) → length (planeEntries a rs) ≡ planes rs
 unfolding planeEntries planes
 length-plane-entries a [] = refl
-length-plane-entries a (r ∷ rs) = go (λ m. length-plane-entries m rs) (flagged r)
+length-plane-entries a (r ∷ rs) = go (λ m. length-plane-entries m rs) (protectedRow r)
   where
     go : ((m : ℕ) → length (planeEntries m rs) ≡ planes rs) → (t : Bool)
         → length (cond t (planeEntry a r ∷ planeEntries (a + planeWords r) rs) (planeEntries a rs)) ≡ cond t 1 0 + planes rs
@@ -120,7 +120,7 @@ fit-rows a rs (RowsOK.cons {r = r} {rs = ss} k f n o) h =
 fit-planes : (a : ℕ) (rs : List Row) → RowsOK rs → a + planesWords rs < 4294967296 → AllFit (planeEntries a rs)
 unfolding planeEntries planesWords planeEntry
 fit-planes a rs RowsOK.nil h = nil
-fit-planes a rs (RowsOK.cons {r = r} {rs = ss} k f n o) h = go (λ m l. fit-planes m ss o l) (flagged r) h
+fit-planes a rs (RowsOK.cons {r = r} {rs = ss} k f n o) h = go (λ m l. fit-planes m ss o l) (protectedRow r) h
   where
     go : ((m : ℕ) → m + planesWords ss < 4294967296 → AllFit (planeEntries m ss)) → (t : Bool)
         → a + (cond t (planeWords r) 0 + planesWords ss) < 4294967296
@@ -195,7 +195,7 @@ bytes-planes : (rs : List Row) (b : List ℕ) → Bytes (planesBytes rs b)
 unfolding planesBytes planeBytes
 bytes-planes [] b = bytes-nil
 bytes-planes (r ∷ rs) b =
-    bytes-append (cond (flagged r) (planeBytes r b) []) (planesBytes rs (drop (8 * r .words) b)) (go (flagged r)) (bytes-planes rs (drop (8 * r .words) b))
+    bytes-append (cond (protectedRow r) (planeBytes r b) []) (planesBytes rs (drop (8 * r .words) b)) (go (protectedRow r)) (bytes-planes rs (drop (8 * r .words) b))
   where
     go : (t : Bool) → Bytes (cond t (planeBytes r b) [])
     go true =

@@ -18,7 +18,7 @@ use Rattle.model.specs.Layout.{Entry, isPlane}
 use Rattle.model.specs.Parity.{checkOf}
 use Rattle.model.specs.Views.{firstThat, planeFor}
 use Rattle.model.specs.Scan.{planeOf, Visit, visitWith, visitOf, visitsOver, Codeword, codewordsFrom, wordsOf, codewordsIn, isProtected, Among}
-use Rattle.model.specs.Writer.{Row, flagged, planeWords, rowEntry, rowEntries, planeEntry, planeEntries, rowWords, planesWords, planes, kindAmong, checks, planeBytes, planesBytes}
+use Rattle.model.specs.Writer.{Row, protectedRow, planeWords, rowEntry, rowEntries, planeEntry, planeEntries, rowWords, planesWords, planes, kindAmong, checks, planeBytes, planesBytes}
 use Rattle.model.proofs.BytesLaw.{read-ext, read-drop, at-left, at-right}
 use Rattle.model.proofs.ScanLaw.{codewords-append, visits-append}
 use Rattle.model.specs.Steps.{anyOf}
@@ -32,19 +32,19 @@ use Rattle.lemmas.proofs.PlanLaw.{RowsOK}
 unfoldable pub visitsPlan : List Row → ℕ → ℕ → List Visit
 visitsPlan [] a b = []
 visitsPlan (r ∷ rs) a b =
-    cond (flagged r) (record { region = rowEntry a r; plane = planeEntry b r } ∷ []) [] ++ visitsPlan rs (a + r .words) (b + cond (flagged r) (planeWords r) 0)
+    cond (protectedRow r) (record { region = rowEntry a r; plane = planeEntry b r } ∷ []) [] ++ visitsPlan rs (a + r .words) (b + cond (protectedRow r) (planeWords r) 0)
 
 unfoldable pub codewordsPlan : List Row → ℕ → ℕ → List Codeword
 codewordsPlan [] a b = []
 codewordsPlan (r ∷ rs) a b =
-    cond (flagged r) (codewordsFrom (r .words) a (8 * b)) [] ++ codewordsPlan rs (a + r .words) (b + cond (flagged r) (planeWords r) 0)
+    cond (protectedRow r) (codewordsFrom (r .words) a (8 * b)) [] ++ codewordsPlan rs (a + r .words) (b + cond (protectedRow r) (planeWords r) 0)
 
 pub plan-codewords : (rs : List Row) (a b : ℕ) → codewordsIn (visitsPlan rs a b) ≡ codewordsPlan rs a b
 unfolding visitsPlan codewordsPlan codewordsIn wordsOf planeEntry
 plan-codewords [] a b = refl
 plan-codewords (r ∷ rs) a b =
-    codewords-append (cond (flagged r) (record { region = rowEntry a r; plane = planeEntry b r } ∷ []) []) (visitsPlan rs (a + r .words) (b + cond (flagged r) (planeWords r) 0))
-    ∙ ap₂ (λ (x y : List Codeword). x ++ y) (go (flagged r)) (plan-codewords rs (a + r .words) (b + cond (flagged r) (planeWords r) 0))
+    codewords-append (cond (protectedRow r) (record { region = rowEntry a r; plane = planeEntry b r } ∷ []) []) (visitsPlan rs (a + r .words) (b + cond (protectedRow r) (planeWords r) 0))
+    ∙ ap₂ (λ (x y : List Codeword). x ++ y) (go (protectedRow r)) (plan-codewords rs (a + r .words) (b + cond (protectedRow r) (planeWords r) 0))
   where
     -- no words past the plane
     covered : min (r .words) (8 * ((r .words + 7) / 8)) ≡ r .words
@@ -58,7 +58,7 @@ plan-codewords (r ∷ rs) a b =
 pub plan-any : (rs : List Row) (a b : ℕ) → anyOf (visitsPlan rs a b) ≡ ltb 0 (planes rs)
 unfolding visitsPlan planes
 plan-any [] a b = refl
-plan-any (r ∷ rs) a b = go (plan-any rs (a + r .words) (b + 0)) (flagged r)
+plan-any (r ∷ rs) a b = go (plan-any rs (a + r .words) (b + 0)) (protectedRow r)
   where
     go : anyOf (visitsPlan rs (a + r .words) (b + 0)) ≡ ltb 0 (planes rs) → (t : Bool)
         → anyOf (cond t (record { region = rowEntry a r; plane = planeEntry b r } ∷ []) [] ++ visitsPlan rs (a + r .words) (b + cond t (planeWords r) 0))
@@ -66,13 +66,13 @@ plan-any (r ∷ rs) a b = go (plan-any rs (a + r .words) (b + 0)) (flagged r)
     go h true = sym (lt-ltb 0 (1 + planes rs) (omega arith))
     go h false = h ∙ ap (ltb 0) (sym (zero-add (planes rs)))
 
--- ---- each flagged row's plane is the first that covers its kind
+-- ---- each protected row's plane is the first that covers its kind
 
 -- the planes lie from word b on
 data Finds (all : List Entry) : List Row → ℕ → Type 0 where
   nil : {b : ℕ} → Finds all [] b
-  cons : {r : Row} {rs : List Row} {b : ℕ} → (flagged r ≡ true → firstThat (planeFor (r .kind)) all ≡ some (planeEntry b r))
-      → Finds all rs (b + cond (flagged r) (planeWords r) 0) → Finds all (r ∷ rs) b
+  cons : {r : Row} {rs : List Row} {b : ℕ} → (protectedRow r ≡ true → firstThat (planeFor (r .kind)) all ≡ some (planeEntry b r))
+      → Finds all rs (b + cond (protectedRow r) (planeWords r) 0) → Finds all (r ∷ rs) b
 
 -- a plane of another kind in front changes nothing
 finds-plane : (c : ℕ) (s : Row) (all : List Entry) {rs : List Row} {b : ℕ} → kindAmong (s .kind) rs ≡ false → Finds all rs b → Finds (planeEntry c s ∷ all) rs b
@@ -95,9 +95,9 @@ finds-row e all h (cons {r = r} {b = b} f g) = cons {r = r} {b = b} (λ t. rw h 
 finds-planes : (rs : List Row) (b : ℕ) → RowsOK rs → Finds (planeEntries b rs) rs b
 unfolding planeEntries firstThat planeEntry bit
 finds-planes rs b RowsOK.nil = nil
-finds-planes rs b (RowsOK.cons {r = r} {rs = ss} k f n o) = go (λ m. finds-planes ss m o) (flagged r) refl
+finds-planes rs b (RowsOK.cons {r = r} {rs = ss} k f n o) = go (λ m. finds-planes ss m o) (protectedRow r) refl
   where
-    go : ((m : ℕ) → Finds (planeEntries m ss) ss m) → (t : Bool) → flagged r ≡ t
+    go : ((m : ℕ) → Finds (planeEntries m ss) ss m) → (t : Bool) → protectedRow r ≡ t
         → Finds (cond t (planeEntry b r ∷ planeEntries (b + planeWords r) ss) (planeEntries b ss)) (r ∷ ss) b
     go g true e =
         cons {r = r} {b = b} (λ _. rw (eq-eqb (r .kind) (r .kind) refl))
@@ -126,7 +126,7 @@ module _ (len : ℕ) (all : List Entry) where
   over-planes : (b : ℕ) (rs : List Row) → visitsOver len all (planeEntries b rs) ≡ []
   unfolding planeEntries visitsOver visitOf isProtected planeEntry bit
   over-planes b [] = refl
-  over-planes b (r ∷ rs) = go (λ m. over-planes m rs) (flagged r)
+  over-planes b (r ∷ rs) = go (λ m. over-planes m rs) (protectedRow r)
     where
       go : ((m : ℕ) → visitsOver len all (planeEntries m rs) ≡ []) → (t : Bool)
           → visitsOver len all (cond t (planeEntry b r ∷ planeEntries (b + planeWords r) rs) (planeEntries b rs)) ≡ []
@@ -139,11 +139,11 @@ module _ (len : ℕ) (all : List Entry) where
   over-rows ok a b rs RowsOK.nil g i = refl
   over-rows ok a b rs (RowsOK.cons {r = r} {rs = ss} k f n o) (cons t g) i =
       ap₂ (λ (x y : List Visit). x ++ y)
-      (ap (λ (u : Bool). cond (not u && flagged r) (visitWith (rowEntry a r) (planeOf len all (rowEntry a r))) []) (row-plane (r .flags) f)
-      ∙ go (flagged r) refl (i (rowEntry a r) (now refl)))
-      (over-rows ok (a + r .words) (b + cond (flagged r) (planeWords r) 0) ss o g (λ e m. i e (next m)))
+      (ap (λ (u : Bool). cond (not u && protectedRow r) (visitWith (rowEntry a r) (planeOf len all (rowEntry a r))) []) (row-plane (r .flags) f)
+      ∙ go (protectedRow r) refl (i (rowEntry a r) (now refl)))
+      (over-rows ok (a + r .words) (b + cond (protectedRow r) (planeWords r) 0) ss o g (λ e m. i e (next m)))
     where
-      go : (u : Bool) → flagged r ≡ u → In (rowEntry a r) all
+      go : (u : Bool) → protectedRow r ≡ u → In (rowEntry a r) all
           → cond u (visitWith (rowEntry a r) (planeOf len all (rowEntry a r))) [] ≡ cond u (record { region = rowEntry a r; plane = planeEntry b r } ∷ []) []
       go true e m = rw (plane-plain len all ok (rowEntry a r) m, t e)
       go false e m = refl
@@ -157,17 +157,17 @@ plan-visits len a b rs o ok =
     (over-rows len all ok a b rs o (finds a b rs o) (λ e m. in-left (rowEntries a rs) (planeEntries b rs) m)) (over-planes len all b rs)
     ∙ append-nil (visitsPlan rs a b)
 
--- the words of a flagged row are among them
-pub plan-among : (before : List Row) (r : Row) (behind : List Row) → flagged r ≡ true → (a b k : ℕ) → k < r .words
+-- the words of a protected row are among them
+pub plan-among : (before : List Row) (r : Row) (behind : List Row) → protectedRow r ≡ true → (a b k : ℕ) → k < r .words
     → Among (a + rowWords before + k) (8 * (b + planesWords before) + k) (codewordsPlan (before ++ (r ∷ behind)) a b)
 unfolding codewordsPlan rowWords planesWords
 plan-among [] r behind t a b k h =
     rw (t, add-zero a, add-zero b)
     (among-left (codewordsFrom (r .words) a (8 * b)) (codewordsPlan behind (a + r .words) (b + planeWords r)) (from-among (r .words) a (8 * b) k h))
 plan-among (s ∷ before) r behind t a b k h =
-    rw (sym (add-assoc a (s .words) (rowWords before)), sym (add-assoc b (cond (flagged s) (planeWords s) 0) (planesWords before)))
-    (among-right (cond (flagged s) (codewordsFrom (s .words) a (8 * b)) []) (codewordsPlan (before ++ (r ∷ behind)) (a + s .words) (b + cond (flagged s) (planeWords s) 0))
-    (plan-among before r behind t (a + s .words) (b + cond (flagged s) (planeWords s) 0) k h))
+    rw (sym (add-assoc a (s .words) (rowWords before)), sym (add-assoc b (cond (protectedRow s) (planeWords s) 0) (planesWords before)))
+    (among-right (cond (protectedRow s) (codewordsFrom (s .words) a (8 * b)) []) (codewordsPlan (before ++ (r ∷ behind)) (a + s .words) (b + cond (protectedRow s) (planeWords s) 0))
+    (plan-among before r behind t (a + s .words) (b + cond (protectedRow s) (planeWords s) 0) k h))
 
 -- ---- their check bytes
 
@@ -198,7 +198,7 @@ length-plane r b =
 pub length-planes : (rs : List Row) (b : List ℕ) → length (planesBytes rs b) ≡ 8 * planesWords rs
 unfolding planesBytes planesWords
 length-planes [] b = refl
-length-planes (r ∷ rs) b = go (flagged r) (length-planes rs (drop (8 * r .words) b))
+length-planes (r ∷ rs) b = go (protectedRow r) (length-planes rs (drop (8 * r .words) b))
   where
     go : (t : Bool) → length (planesBytes rs (drop (8 * r .words) b)) ≡ 8 * planesWords rs
         → length (cond t (planeBytes r b) [] ++ planesBytes rs (drop (8 * r .words) b)) ≡ 8 * (cond t (planeWords r) 0 + planesWords rs)
@@ -213,8 +213,8 @@ pub checked : (x : List ℕ) (rs : List Row) (a b : ℕ) (pl : List ℕ)
 unfolding rowWords planesWords planesBytes codewordsPlan
 checked x [] a b pl f g q c m = elim m [ ]
 checked x (r ∷ rs) a b pl f g q c m =
-    go (flagged r) g (λ b′ g′ i. checked x rs (a + r .words) b′ (drop (8 * r .words) pl) rest g′ q c i)
-    (among-append (cond (flagged r) (codewordsFrom (r .words) a (8 * b)) []) (codewordsPlan rs (a + r .words) (b + cond (flagged r) (planeWords r) 0)) m)
+    go (protectedRow r) g (λ b′ g′ i. checked x rs (a + r .words) b′ (drop (8 * r .words) pl) rest g′ q c i)
+    (among-append (cond (protectedRow r) (codewordsFrom (r .words) a (8 * b)) []) (codewordsPlan rs (a + r .words) (b + cond (protectedRow r) (planeWords r) 0)) m)
   where
     rest : (j : ℕ) → j < 8 * rowWords rs → at x (8 * (a + r .words) + j) ≡ at (drop (8 * r .words) pl) j
     rest j h =

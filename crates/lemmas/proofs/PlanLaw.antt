@@ -12,7 +12,7 @@ use Rattle.model.specs.Refusals.{Verdict, fine, refuse, _then_, refuseIf}
 use Rattle.model.specs.Layout.{Entry, headerLength}
 use Rattle.model.specs.Parse.{among}
 use Rattle.model.specs.Mend.{meets, meetsAny, inHeader, apartVerdict}
-use Rattle.model.specs.Writer.{Row, flagged, planeWords, rowEntry, rowEntries, planeEntry, planeEntries, rowWords, planesWords, regions, firstWord, planDirectory, planImage, kindAmong, rowsVerdict, imageLength, planVerdict, image, writeAs, write}
+use Rattle.model.specs.Writer.{Row, protectedRow, planeWords, rowEntry, rowEntries, planeEntry, planeEntries, rowWords, planesWords, regions, firstWord, planDirectory, planImage, kindAmong, rowsVerdict, imageLength, planVerdict, image, writeAs, write}
 use Rattle.lemmas.proofs.VerdictLaw.{true-false, passed, passed-both, passes, or-left, or-right, or-none, or-true, and-false}
 use Rattle.lemmas.proofs.EntriesLaw.{EntriesOK, among-append}
 
@@ -100,7 +100,7 @@ packed-rows a (r ∷ rs) =
 pub packed-planes : (a : ℕ) (rs : List Row) → Packed a (planeEntries a rs) (a + planesWords rs)
 unfolding planeEntries planesWords planeEntry
 packed-planes a [] = subst (Packed a []) (sym (add-zero a)) done
-packed-planes a (r ∷ rs) = go (λ m. packed-planes m rs) (flagged r)
+packed-planes a (r ∷ rs) = go (λ m. packed-planes m rs) (protectedRow r)
   where
     go : ((m : ℕ) → Packed m (planeEntries m rs) (m + planesWords rs)) → (t : Bool)
         → Packed a (cond t (planeEntry a r ∷ planeEntries (a + planeWords r) rs) (planeEntries a rs)) (a + (cond t (planeWords r) 0 + planesWords rs))
@@ -120,7 +120,7 @@ among-rows k a (r ∷ rs) h =
 low-plane : (k a : ℕ) (rs : List Row) → k < 0x8000 → among k (planeEntries a rs) ≡ false
 unfolding among planeEntries planeEntry
 low-plane k a [] h = refl
-low-plane k a (r ∷ rs) h = go (λ m. low-plane k m rs h) (flagged r)
+low-plane k a (r ∷ rs) h = go (λ m. low-plane k m rs h) (protectedRow r)
   where
     go : ((m : ℕ) → among k (planeEntries m rs) ≡ false) → (t : Bool) → among k (cond t (planeEntry a r ∷ planeEntries (a + planeWords r) rs) (planeEntries a rs)) ≡ false
     go f true = or-none (eqb (0x8000 + r .kind) k) (among k (planeEntries (a + planeWords r) rs)) (ne-eqb (0x8000 + r .kind) k (λ e. omega arith)) (f (a + planeWords r))
@@ -129,7 +129,7 @@ low-plane k a (r ∷ rs) h = go (λ m. low-plane k m rs h) (flagged r)
 other-plane : (k a : ℕ) (rs : List Row) → kindAmong k rs ≡ false → among (0x8000 + k) (planeEntries a rs) ≡ false
 unfolding among planeEntries planeEntry kindAmong
 other-plane k a [] h = refl
-other-plane k a (r ∷ rs) h = go (λ m. other-plane k m rs (or-right (eqb (r .kind) k) (kindAmong k rs) h)) (flagged r)
+other-plane k a (r ∷ rs) h = go (λ m. other-plane k m rs (or-right (eqb (r .kind) k) (kindAmong k rs) h)) (protectedRow r)
   where
     go : ((m : ℕ) → among (0x8000 + k) (planeEntries m rs) ≡ false) → (t : Bool)
         → among (0x8000 + k) (cond t (planeEntry a r ∷ planeEntries (a + planeWords r) rs) (planeEntries a rs)) ≡ false
@@ -142,7 +142,7 @@ other-plane k a (r ∷ rs) h = go (λ m. other-plane k m rs (or-right (eqb (r .k
 planes-ok : (len a : ℕ) (rs : List Row) → RowsOK rs → 8 * (a + planesWords rs) ≤ len → EntriesOK len (planeEntries a rs)
 unfolding planeEntries planesWords planeEntry
 planes-ok len a rs RowsOK.nil h = EntriesOK.nil
-planes-ok len a rs (RowsOK.cons {r = r} {rs = ss} k f n o) h = go (λ m l. planes-ok len m ss o l) (flagged r) h
+planes-ok len a rs (RowsOK.cons {r = r} {rs = ss} k f n o) h = go (λ m l. planes-ok len m ss o l) (protectedRow r) h
   where
     go : ((m : ℕ) → 8 * (m + planesWords ss) ≤ len → EntriesOK len (planeEntries m ss)) → (t : Bool)
         → 8 * (a + (cond t (planeWords r) 0 + planesWords ss)) ≤ len

@@ -8,7 +8,7 @@ use Rattle.mending.specs.declared.Mending.{Mending}
 use Rattle.mending.specs.declared.MendResult.{MendResult}
 use Rattle.mending.specs.declared.MendResult.the-variants.{Mended, Refused}
 
--- with the image y that it leaves
+-- what mend answered, with the image y that it leaves, as the model's answer
 abbrev pub asMending : Mending → List ℕ → model.MendAnswer
 asMending m y = model.mended y (asScan (m .report)) (m .stored) (m .whole)
 

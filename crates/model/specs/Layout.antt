@@ -47,7 +47,7 @@ count x = countIn (prologue x)
 abbrev pub headerLength : ℕ → ℕ
 headerLength n = 48 + 48 * n
 
--- of n entries
+-- one copy of a directory of n entries, by the vote
 unfoldable pub directoryBytesOf : ℕ → List ℕ → List ℕ
 directoryBytesOf n x = voted 48 (16 * n) x
 
@@ -88,8 +88,8 @@ directory x = directoryOf (count x) x
 abbrev pub isEncrypted : ℕ → Bool
 isEncrypted flags = bit flags 0
 
-abbrev pub hasParity : ℕ → Bool
-hasParity flags = bit flags 1
+abbrev pub hasEcc : ℕ → Bool
+hasEcc flags = bit flags 1
 
 abbrev pub isOptional : ℕ → Bool
 isOptional flags = bit flags 2

@@ -21,7 +21,7 @@ use Rattle.model.specs.Scan.{Codeword, Among, codewords, classAt, Report
 abbrev pub InRegion : Entry → ℕ → Type 0
 InRegion e b = (start e ≤ b) × (b < end e)
 
--- of a directory es of n entries
+-- the entries es of a directory of n entries lie apart
 pub record LaidApart (n : ℕ) (es : List Entry) : Type 0 where
   -- no non-empty region starts inside the header
   pub behind : (i : ℕ) (e : Entry) → nth i es ≡ some e → 0 < e .words → headerLength n ≤ start e
@@ -53,7 +53,7 @@ pub record MendRule (x y : List ℕ) : Type 0 where
   pub copies : (p : ℕ) → p < headerLength (count x) → at y p ≡ at (header x) p
   -- each examined word becomes as scrub makes it
   pub words : (q c : ℕ) → Among q c (codewords x) → wordAt y q ≡ fixedWord (wordAt x q) (at x c)
-  -- its check byte matches if the word was corrected, and is kept if not
+  -- the check byte of an examined word matches if the word was corrected, and is kept if not
   pub checks : (q c : ℕ) → Among q c (codewords x) → at y c ≡ fixedCheck (wordAt x q) (at x c)
   -- nothing else moves
   pub others : (p : ℕ) → Elsewhere x p → at y p ≡ at x p
@@ -82,7 +82,7 @@ apartVerdict n i earlier (e ∷ es) =
 unfoldable pub mendVerdict : List ℕ → Verdict
 mendVerdict x = parseVerdict x then apartVerdict (count x) 0 [] (directory x)
 
--- the same with what a misplaced entry lies on: the header, or else the lowest earlier entry that it shares a byte with
+-- what a misplaced entry lies on: the header, or else the lowest earlier entry that it shares a byte with
 
 -- the first of the entries, which count from j on, that shares a byte with e
 unfoldable pub meetsFrom : ℕ → Entry → List Entry → Option ℕ
@@ -95,13 +95,13 @@ pub data Placement : Type 0 where
   overRegion : ℕ → ℕ → Placement
   refusedPlacement : ℕ → ℕ → Placement
 
--- of entry i: whether it starts inside the header, the earlier entry that it meets, and what the entries behind it come to
+-- what is said of entry i, given whether it starts inside the header, the earlier entry that it meets, and what is said of the entries behind it
 abbrev pub placementAs : Bool → Option ℕ → ℕ → Placement → Placement
 placementAs true o i p = overHeader i
 placementAs false (some j) i p = overRegion i j
 placementAs false none i p = p
 
--- the earlier entries in the directory's order
+-- what is said of the entries from entry i on; `earlier` are the entries before them, in the directory's order
 unfoldable pub placementFrom : Header → ℕ → List Entry → List Entry → Placement
 placementFrom h i earlier [] = placedApart h
 placementFrom h i earlier (e ∷ es) =
@@ -116,7 +116,7 @@ placementOf (refused n d) es = refusedPlacement n d
 unfoldable pub placement : List ℕ → Placement
 placement x = placementOf (parse x) (directory x)
 
--- what it says, as a verdict (`placement-verdict` in the crate lemmas: it is mend's)
+-- a placement as a verdict (`placement-verdict` in the crate lemmas: that of an image is mend's)
 abbrev pub placementVerdict : Placement → Verdict
 placementVerdict (placedApart h) = fine
 placementVerdict (overHeader i) = refuse overlappingRegions i

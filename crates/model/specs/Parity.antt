@@ -25,7 +25,7 @@ ofWeight t = keepIf (λ b. eqb (ones b) t) (tabulate 256 (λ b. b))
 unfoldable pub hsiao : List ℕ
 hsiao = ofWeight 3 ++ (take 8 (ofWeight 5) ++ tabulate 8 (λ j. 2 ^ j))
 
--- the same as a table (`columns-rule` in proofs/)
+-- the columns as a table (`columns-rule` in proofs/: they are Hsiao's)
 unfoldable pub columns : List ℕ
 columns = 7 ∷ 11 ∷ 13 ∷ 14 ∷ 19 ∷ 21 ∷ 22 ∷ 25 ∷ 26 ∷ 28 ∷ 35 ∷ 37 ∷ 38 ∷ 41 ∷ 42 ∷ 44 ∷ 49 ∷ 50 ∷ 52 ∷ 56 ∷ 67 ∷ 69 ∷ 70 ∷ 73 ∷ 74 ∷ 76 ∷ 81 ∷ 82 ∷ 84 ∷ 88 ∷ 97 ∷ 98 ∷ 100 ∷ 104 ∷ 112 ∷ 131 ∷ 133 ∷ 134 ∷ 137 ∷ 138 ∷ 140 ∷ 145 ∷ 146 ∷ 148 ∷ 152 ∷ 161 ∷ 162 ∷ 164 ∷ 168 ∷ 176 ∷ 193 ∷ 194 ∷ 196 ∷ 200 ∷ 208 ∷ 224 ∷ 31 ∷ 47 ∷ 55 ∷ 59 ∷ 61 ∷ 62 ∷ 79 ∷ 87 ∷ 1 ∷ 2 ∷ 4 ∷ 8 ∷ 16 ∷ 32 ∷ 64 ∷ 128 ∷ []
 
@@ -46,7 +46,7 @@ pub data Class : Type 0 where
   flipped : ℕ → Class
   uncorrectable : Class
 
--- the place of s, if it is there
+-- the place of s in a list, if it is there
 unfoldable pub find : ℕ → List ℕ → Option ℕ
 find s [] = none
 find s (c ∷ cs) = cond (eqb c s) (some 0) (Option·map suc (find s cs))
@@ -55,7 +55,7 @@ find s (c ∷ cs) = cond (eqb c s) (some 0) (Option·map suc (find s cs))
 unfoldable pub isOdd : ℕ → Bool
 isOdd s = eqb (ones s % 2) 1
 
--- by the place among the columns
+-- the class of a syndrome by its place among the columns
 abbrev pub flippedAt : Option ℕ → Class
 flippedAt none = uncorrectable
 flippedAt (some i) = flipped i

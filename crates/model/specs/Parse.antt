@@ -29,7 +29,7 @@ entriesVerdict len i (e ∷ es) =
     refuseIf (among (e .kind) es) duplicateRegion (e .kind) then
     entriesVerdict len (suc i) es
 
--- of an image's length, voted prologue and directory
+-- what parse says of an image's length, voted prologue and directory
 unfoldable pub headerVerdict : ℕ → List ℕ → List Entry → Verdict
 headerVerdict len p es =
     refuseIf (ltb len 48) truncated 0 then

@@ -7,7 +7,7 @@ use Prim.Native.Nat.{ℕ, zero, suc, _+_, _*_, _/_, min}
 use lib.Dec.{leb, ltb}
 use lib.ListN.{length}
 use Rattle.model.specs.Bytes.{at, wordAt, given, tabulate}
-use Rattle.model.specs.Layout.{hasParity, isPlane, Entry, end, directory}
+use Rattle.model.specs.Layout.{hasEcc, isPlane, Entry, end, directory}
 use Rattle.model.specs.Views.{entriesFor, firstThat, planeFor}
 use Rattle.model.specs.Parity.{Class, clean, flipped, uncorrectable, decode, Outcome, outcome}
 
@@ -61,30 +61,30 @@ planeOf len all e = planeWithin len e (firstThat (planeFor (e .kind)) all)
 
 -- ---- the regions that a whole scan visits: protected, and with a plane
 
--- no plane, and flagged 2
+-- an entry is protected if it is no plane and has flag 2
 unfoldable pub isProtected : Entry → Bool
-isProtected e = not (isPlane (e .flags)) && hasParity (e .flags)
+isProtected e = not (isPlane (e .flags)) && hasEcc (e .flags)
 
--- a region and its plane
+-- a visit: a region, and the plane that covers it
 pub record Visit : Type 0 where
   pub region : Entry
   pub plane : Entry
 
--- none without a plane
+-- the visit of a region with the plane that was found for it, and none without a plane
 abbrev pub visitWith : Entry → Option Entry → List Visit
 visitWith e none = []
 visitWith e (some p) = record { region = e; plane = p } ∷ []
 
--- of one entry: one visit or none
+-- the visit of one entry, and none where it is not protected or has no plane
 unfoldable pub visitOf : ℕ → List Entry → Entry → List Visit
 visitOf len all e = cond (isProtected e) (visitWith e (planeOf len all e)) []
 
--- of the entries in turn; `all` is the directory that the planes are looked up in
+-- the visits of some entries in turn; `all` is the directory that planes are looked up in
 unfoldable pub visitsOver : ℕ → List Entry → List Entry → List Visit
 visitsOver len all [] = []
 visitsOver len all (e ∷ es) = visitOf len all e ++ visitsOver len all es
 
--- of an image, in directory order
+-- the visits of an image, in directory order
 unfoldable pub visits : List ℕ → List Visit
 visits x = visitsOver (length x) (directory x) (directory x)
 
@@ -94,12 +94,12 @@ pub record Codeword : Type 0 where
   pub word : ℕ
   pub check : ℕ
 
--- n words from q on, with check bytes from c on
+-- the codewords of n words from q on, with check bytes from c on
 unfoldable pub codewordsFrom : ℕ → ℕ → ℕ → List Codeword
 codewordsFrom zero q c = []
 codewordsFrom (suc n) q c = record { word = q; check = c } ∷ codewordsFrom n (suc q) (suc c)
 
--- words past the shorter of region and plane are not examined
+-- the codewords of a visit: words past the shorter of region and plane are not examined
 unfoldable pub wordsOf : Visit → List Codeword
 wordsOf v = codewordsFrom (min (v .region .words) (8 * v .plane .words)) (v .region .offset) (8 * v .plane .offset)
 
@@ -107,7 +107,7 @@ unfoldable pub codewordsIn : List Visit → List Codeword
 codewordsIn [] = []
 codewordsIn (v ∷ vs) = wordsOf v ++ codewordsIn vs
 
--- of an image
+-- the codewords of an image
 unfoldable pub codewords : List ℕ → List Codeword
 codewords x = codewordsIn (visits x)
 
@@ -130,14 +130,14 @@ unfoldable pub scanOf : List ℕ → List Visit → Option Report
 scanOf x [] = none
 scanOf x (v ∷ vs) = some (report (classesAt x (codewordsIn (v ∷ vs))))
 
--- of an image that parses
+-- the scan of an image that parses
 unfoldable pub scan : List ℕ → Option Report
 scan x = scanOf x (visits x)
 
--- of bytes x and a count n that stands beside them
+-- the scan of bytes x with a count n that stands beside them
 unfoldable pub scanIn : ℕ → List ℕ → Option Report
 scanIn n x = scanOf x (visitsOver (length x) (entriesFor n x) (entriesFor n x))
 
--- of one region alone, which need not be flagged 2
+-- the scan of one region alone, which need not be flagged 2
 unfoldable pub scanRegion : ℕ → List ℕ → Entry → Option Report
 scanRegion n x e = scanOf x (visitWith e (planeOf (length x) (entriesFor n x) e))

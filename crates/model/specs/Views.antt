@@ -98,7 +98,7 @@ tableVerdict len e stride =
 unfoldable pub tableSpan : ℕ → Entry → ℕ → Span
 tableSpan len e stride = spanAs (tableVerdict len e stride) (range (start e) (end e))
 
--- the same conditions of bytes in hand
+-- so many bytes are a table of this stride
 unfoldable pub isTable : ℕ → ℕ → Bool
 isTable len stride = not (badStride stride) && eqb (len % stride) 0
 

@@ -7,7 +7,7 @@ use lib.ListN.{length, drop, replicate}
 use Rattle.model.specs.Bytes.{read, leBytes, thrice}
 use Rattle.model.specs.Refusals.{badPlan, duplicateRegion, tooManyRegions, tooLarge, noRoom, Verdict, fine, refuse, _then_, refuseIf}
 use Rattle.model.specs.Crc.{crc32}
-use Rattle.model.specs.Layout.{headerLength, hasParity, Entry}
+use Rattle.model.specs.Layout.{headerLength, hasEcc, Entry}
 use Rattle.model.specs.Parity.{checkOf}
 
 pub record Row : Type 0 where
@@ -15,8 +15,8 @@ pub record Row : Type 0 where
   pub flags : ℕ
   pub words : ℕ
 
-abbrev pub flagged : Row → Bool
-flagged r = hasParity (r .flags)
+abbrev pub protectedRow : Row → Bool
+protectedRow r = hasEcc (r .flags)
 
 -- words of a row's region, and of its plane: ceil (words / 8)
 abbrev pub regionWords : Row → ℕ
@@ -39,7 +39,7 @@ planeEntry a r = record { kind = 0x8000 + r .kind; flags = 8; offset = a; words 
 
 unfoldable pub planeEntries : ℕ → List Row → List Entry
 planeEntries a [] = []
-planeEntries a (r ∷ rs) = cond (flagged r) (planeEntry a r ∷ planeEntries (a + planeWords r) rs) (planeEntries a rs)
+planeEntries a (r ∷ rs) = cond (protectedRow r) (planeEntry a r ∷ planeEntries (a + planeWords r) rs) (planeEntries a rs)
 
 unfoldable pub rowWords : List Row → ℕ
 rowWords [] = 0
@@ -47,11 +47,11 @@ rowWords (r ∷ rs) = regionWords r + rowWords rs
 
 unfoldable pub planesWords : List Row → ℕ
 planesWords [] = 0
-planesWords (r ∷ rs) = cond (flagged r) (planeWords r) 0 + planesWords rs
+planesWords (r ∷ rs) = cond (protectedRow r) (planeWords r) 0 + planesWords rs
 
 unfoldable pub planes : List Row → ℕ
 planes [] = 0
-planes (r ∷ rs) = cond (flagged r) 1 0 + planes rs
+planes (r ∷ rs) = cond (protectedRow r) 1 0 + planes rs
 
 unfoldable pub regions : List Row → ℕ
 regions rs = length rs + planes rs
@@ -91,7 +91,7 @@ planeBytes r b = checks (regionWords r) b ++ replicate (8 * planeWords r - regio
 
 unfoldable pub planesBytes : List Row → List ℕ → List ℕ
 planesBytes [] b = []
-planesBytes (r ∷ rs) b = cond (flagged r) (planeBytes r b) [] ++ planesBytes rs (drop (8 * regionWords r) b)
+planesBytes (r ∷ rs) b = cond (protectedRow r) (planeBytes r b) [] ++ planesBytes rs (drop (8 * regionWords r) b)
 
 unfoldable pub planImage : List Row → List ℕ → List ℕ
 planImage rs payload =

@@ -6,7 +6,7 @@ use Prim.Native.Nat.{ℕ, suc, _+_, _≤_, _<_}
 use native.Mathlib.Numerals.{add-one}
 use lib.ListN.{length, getD, drop, drop-of-length-le}
 use lib.Seq.{drop-cons}
-use Rattle.model.specs.Writer.{Row, flagged, planeWords, rowWords, planesWords}
+use Rattle.model.specs.Writer.{Row, protectedRow, planeWords, rowWords, planesWords}
 use Rattle.plan.specs.Kept.{wordsIn, rowOf, rowsOf}
 
 pub length-rowsOf : (xs : List ℕ) → length (rowsOf xs) ≡ length xs
@@ -34,6 +34,6 @@ module _ (xs : List ℕ) (i : ℕ) where
     unfolding rowWords
     words-next = ap rowWords rows-next
 
-    pub planes-next : planesWords (rowsOf (drop i xs)) ≡ cond (flagged (rowOf x)) (planeWords (rowOf x)) 0 + planesWords rest
+    pub planes-next : planesWords (rowsOf (drop i xs)) ≡ cond (protectedRow (rowOf x)) (planeWords (rowOf x)) 0 + planesWords rest
     unfolding planesWords
     planes-next = ap planesWords rows-next

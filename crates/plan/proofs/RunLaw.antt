@@ -10,7 +10,7 @@ use lib.Dec.{eqb, ltb}
 use lib.ListN.{length, getD, take, drop, set, length-set}
 use lib.Seq.{drop-cons, getD-set-same, getD-set-other}
 use Rattle.model.specs.Refusals.{fine}
-use Rattle.model.specs.Layout.{hasParity}
+use Rattle.model.specs.Layout.{hasEcc}
 use Rattle.model.specs.Writer as model
 use Rattle.model.specs.Writer.{planes, regions, kindAmong, rowsVerdict}
 use Rattle.lemmas.proofs.VerdictLaw.{or-left}
@@ -51,7 +51,7 @@ same m n h = cc
 
 regions-cons : (r : Row) (rs : List Row) → regions (asPlan (r ∷ rs)) ≡ regionsOf (r .flags) + regions (asPlan rs)
 unfolding regions planes asPlan
-regions-cons r rs = go (hasParity (r .flags))
+regions-cons r rs = go (hasEcc (r .flags))
   where
     go : (t : Bool) → suc (length (asPlan rs)) + (cond t 1 0 + planes (asPlan rs)) ≡ cond t 2 1 + (length (asPlan rs) + planes (asPlan rs))
     go true = omega arith
@@ -180,7 +180,7 @@ low-kind : (r : Row) → badRow r ≡ false → r .kind < 0x8000
 low-kind r e = omega (arith, ltb-false 0x7FFF (r .kind) (or-left (ltb 0x7FFF (r .kind)) (ltb 7 (r .flags)) e))
 
 few-regions : (flags : ℕ) → regionsOf flags ≤ 2
-few-regions flags = go (hasParity flags)
+few-regions flags = go (hasEcc flags)
   where
     go : (t : Bool) → cond t 2 1 ≤ 2
     go true = omega arith

@@ -6,7 +6,7 @@ use lib.Dec.{ltb}
 use lib.Bits.{bitOr}
 use lib.ListN.{getD, set}
 use Rattle.bits.specs.Bit.{bit}
-use Rattle.model.specs.Layout.{hasParity}
+use Rattle.model.specs.Layout.{hasEcc}
 use Rattle.error.specs.declared.Refusal.the-variants.{BadPlan, DuplicateRegion}
 use Rattle.plan.specs.declared.rows.Row.{Row}
 use Rattle.plan.specs.declared.rows.Checked.{Checked}
@@ -29,7 +29,7 @@ unfoldable pub withRow : List ℕ → ℕ → Row → List ℕ
 withRow plan i r = cond (ltb i 1024) (set plan (512 + i) (packedRow r)) plan
 
 abbrev pub regionsOf : ℕ → ℕ
-regionsOf flags = cond (hasParity flags) 2 1
+regionsOf flags = cond (hasEcc flags) 2 1
 
 -- row i, where the rows before it are checked so far
 unfoldable pub checkRow : List ℕ → Checked → ℕ → Row → Checked

@@ -2,8 +2,8 @@
 ghost use mathlib.Core.Path.{_≡_};
 ghost use Prim.Native.Nat.{_%_, _^_};
 ghost use lib.ListN.{getD, replicate};
-ghost use Rattle.model.specs.Layout.{hasParity};
-ghost use Rattle.model.specs.Writer.{flagged, planeWords};
+ghost use Rattle.model.specs.Layout.{hasEcc};
+ghost use Rattle.model.specs.Writer.{protectedRow, planeWords};
 ghost use Rattle.plan.specs.Kept.{kindIn, flagsIn, wordsIn, rowOf};
 ghost use Rattle.plan.specs.Checking.{badRow, marked, withMark, withRow, packedRow, regionsOf, checkRow, planAfter};
 use ecc::ECC_KIND_BIT;
@@ -113,7 +113,7 @@ fn store_row(plan: &mut [u64; PLAN_WORDS], i: usize, row: Row)
 fn regions_of(flags: u16) -> usize
     ensures { λ r. ⌜ r ≡ regionsOf flags ⌝ }
 {
-    if has_parity(flags) { 2 } else { 1 }
+    if has_ecc(flags) { 2 } else { 1 }
 }
 
 // A row as one number.
@@ -142,13 +142,13 @@ pub fn words_of(packed: u64) -> u32
 }
 
 pub fn is_protected(packed: u64) -> bool
-    ensures { λ r. ⌜ r ≡ flagged (rowOf packed) ⌝ }
+    ensures { λ r. ⌜ r ≡ protectedRow (rowOf packed) ⌝ }
 {
-    has_parity(flags_of(packed))
+    has_ecc(flags_of(packed))
 }
 
-fn has_parity(flags: u16) -> bool
-    ensures { λ r. ⌜ r ≡ hasParity flags ⌝ }
+fn has_ecc(flags: u16) -> bool
+    ensures { λ r. ⌜ r ≡ hasEcc flags ⌝ }
 {
     flags & FLAG_ECC_PRESENT != 0
 }

@@ -23,11 +23,11 @@ runOf [] = noRun
 runOf (v ∷ vs) =
     record { visited = true; word = v .region .offset; check = 8 * v .plane .offset; words = min (v .region .words) (8 * v .plane .words) }
 
--- its words, each with its check byte
+-- the words of a run, each with its check byte
 abbrev pub codewordsOf : ProtectedRun → List Codeword
 codewordsOf r = codewordsFrom (r .words) (r .word) (r .check)
 
--- they lie in x
+-- the words and check bytes of a run lie in x
 pub record Fits (x : List ℕ) (r : ProtectedRun) : Type 0 where
   pub words : 8 * (r .word + r .words) ≤ length x
   pub checks : r .check + r .words ≤ length x

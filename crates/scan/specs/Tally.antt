@@ -21,7 +21,7 @@ asTotals t = record { any = t .any; report = asReport (t .report) }
 abbrev pub noTotals : Totals
 noTotals = record { any = false; report = noReport }
 
--- of a mark and the classes that were met
+-- the totals of a mark and of the classes that were met
 abbrev pub tallied : Bool → List Class → Totals
 tallied v ks = record { any = v; report = report ks }
 

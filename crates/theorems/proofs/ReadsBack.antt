@@ -16,7 +16,7 @@ use Rattle.model.specs.Parse.{parse, accepted}
 use Rattle.model.specs.Views.{entriesFor, firstThat, ofKind, findRegion, bytesSpan, partOf}
 use Rattle.model.specs.Parity.{Class, clean, decode}
 use Rattle.model.specs.Scan.{Among, codewords, isCorrected, isUncorrectable, total, classesAt, report, scan}
-use Rattle.model.specs.Writer.{Row, flagged, rowEntry, rowEntries, planeEntries, rowWords, planesWords, planesBytes, planes, regions, firstWord, planDirectory, planImage, imageLength, kindAmong, image, write}
+use Rattle.model.specs.Writer.{Row, protectedRow, rowEntry, rowEntries, planeEntries, rowWords, planesWords, planesBytes, planes, regions, firstWord, planDirectory, planImage, imageLength, kindAmong, image, write}
 use Rattle.model.proofs.BytesLaw.{at-left}
 use Rattle.model.proofs.ParityLaw.{decode-clean}
 use Rattle.model.proofs.ScanLaw.{length-part, at-part, length-classes, scan-all}
@@ -116,7 +116,7 @@ module _ (rs : List Row) (payload : List ℕ) (o : PlanOK rs payload) (b : Bytes
         ap (at w) m ∙ in-body rs payload o (8 * rowWords before + j)
         ∙ at-left payload (planesBytes rs payload) (length payload) (8 * rowWords before + j) refl (omega arith)))
 
-    protects : flagged r ≡ true → (k : ℕ) → k < r .words
+    protects : protectedRow r ≡ true → (k : ℕ) → k < r .words
         → Among (firstWord rs + rowWords before + k) (8 * (firstWord rs + rowWords rs + planesWords before) + k) (codewords w)
     unfolding w
     protects t k h =

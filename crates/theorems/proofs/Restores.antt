@@ -14,7 +14,7 @@ use Rattle.model.specs.Refusals.{fine}
 use Rattle.model.specs.Layout.{headerLength, directory, Entry}
 use Rattle.model.specs.Parity.{Class, decode, wordAfter, checkAfter, fixedWord, fixedCheck}
 use Rattle.model.specs.Scan.{visits, Among, codewords, isUncorrectable, total, classesAt, report, scan, Report}
-use Rattle.model.specs.Writer.{Row, flagged, rowEntries, planeEntry, planeEntries, planeWords, rowWords, planesBytes, planes, regions, firstWord, planDirectory, planImage, image, write}
+use Rattle.model.specs.Writer.{Row, protectedRow, rowEntries, planeEntry, planeEntries, planeWords, rowWords, planesBytes, planes, regions, firstWord, planDirectory, planImage, image, write}
 use Rattle.model.specs.Mend.{mendVerdict, MendRule, mendBytes, changed, noneUncorrectable, whole, mended, mend}
 use Rattle.model.proofs.BytesLaw.{at-left}
 use Rattle.model.proofs.ScanLaw.{scan-all}
@@ -119,7 +119,7 @@ rowsOf (e ∷ es) = let r = rowsOf es in cond (ltb (e .kind) 0x8000) (record { k
 rows-of-planes : (a : ℕ) (rs : List Row) → rowsOf (planeEntries a rs) ≡ []
 unfolding rowsOf planeEntries planeEntry
 rows-of-planes a [] = refl
-rows-of-planes a (r ∷ rs) = go (λ m. rows-of-planes m rs) (flagged r)
+rows-of-planes a (r ∷ rs) = go (λ m. rows-of-planes m rs) (protectedRow r)
   where
     go : ((m : ℕ) → rowsOf (planeEntries m rs) ≡ []) → (t : Bool) → rowsOf (cond t (planeEntry a r ∷ planeEntries (a + planeWords r) rs) (planeEntries a rs)) ≡ []
     go f true = rw (le-ltb (0x8000 + r .kind) 0x8000 (omega arith)) (f (a + planeWords r))

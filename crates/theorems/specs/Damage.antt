@@ -13,7 +13,7 @@ use Rattle.model.specs.Parse.{parse, accepted}
 use Rattle.model.specs.Views.{findRegion, bytesSpan, partOf}
 use Rattle.model.specs.Parity.{columns, syndrome, uncorrectable, decode}
 use Rattle.model.specs.Scan.{Among, codewords, Report, scan}
-use Rattle.model.specs.Writer.{Row, flagged, regionWords, rowEntry, rowWords, planesWords, planes, regions, firstWord}
+use Rattle.model.specs.Writer.{Row, protectedRow, regionWords, rowEntry, rowWords, planesWords, planes, regions, firstWord}
 use Rattle.model.specs.Mend.{Elsewhere}
 
 -- word q of image w is protected, and byte c is its check byte
@@ -42,7 +42,7 @@ bitsOff w d q c = distance 64 (wordAt d q) (wordAt w q) + distance 8 (at d c) (a
 
 -- demand 3 is `Damaged 1`
 pub record Damaged (most : ℕ) (w d : List ℕ) : Type 0 where
-  -- the same length, and bytes
+  -- d has the length of w, and holds bytes
   pub size : length d ≡ length w
   pub bytes : Bytes d
   -- at each header bit, of prologue and directory, at most one of the three copies differs
@@ -101,7 +101,7 @@ pub record ReadsBack (rs : List Row) (payload w : List ℕ) : Type 0 where
   pub hands : (before : List Row) (r : Row) (behind : List Row) → rs ≡ before ++ (r ∷ behind)
       → partOf w (bytesSpan (length w) (entryOfRow rs before r)) ≡ part payload (8 * rowWords before) (8 * (rowWords before + regionWords r))
   -- each word of a row flagged 2 is protected, with a check byte of its own in the row's plane
-  pub protects : (before : List Row) (r : Row) (behind : List Row) → rs ≡ before ++ (r ∷ behind) → flagged r ≡ true → (k : ℕ) → k < regionWords r
+  pub protects : (before : List Row) (r : Row) (behind : List Row) → rs ≡ before ++ (r ∷ behind) → protectedRow r ≡ true → (k : ℕ) → k < regionWords r
       → Protected w (firstWord rs + rowWords before + k) (8 * (firstWord rs + rowWords rs + planesWords before) + k)
   -- the scan is clean; it says "nothing" exactly if no row is flagged 2
   pub scans : scan w ≡ given (ltb 0 (planes rs)) (record { words = length (codewords w); corrected = 0; uncorrectable = 0 })

@@ -6,7 +6,7 @@ use Prim.Native.Nat.{ℕ, _+_, _≤_, _<_, zero-le}
 use native.Mathlib.Omega.{arith}
 use lib.ListN.{length, getD, drop}
 use Rattle.model.specs.Layout.{Entry}
-use Rattle.model.specs.Writer.{Row, flagged, planeWords, rowEntry, rowEntries, planeEntry, planeEntries, rowWords, planesWords, entryBytes, entriesBytes}
+use Rattle.model.specs.Writer.{Row, protectedRow, planeWords, rowEntry, rowEntries, planeEntry, planeEntries, rowWords, planesWords, entryBytes, entriesBytes}
 use Rattle.plan.specs.Kept.{wordsIn, rowOf, rowsOf}
 use Rattle.lemmas.proofs.ImageLaw.{length-entry}
 use Rattle.put.specs.Put.{Put}
@@ -26,14 +26,14 @@ module _ (xs : List ℕ) (i : ℕ) (l : i < length xs) where
   unfolding entriesBytes rowEntries
   entries-next a = ap (λ (rs : List Row). entriesBytes (rowEntries a rs)) (rows-next xs i l)
 
-  pub plane-next : (a : ℕ) → flagged (rowOf x) ≡ true
+  pub plane-next : (a : ℕ) → protectedRow (rowOf x) ≡ true
       → entriesBytes (planeEntries a (rowsOf (drop i xs))) ≡ entryBytes (planeEntry a (rowOf x)) ++ entriesBytes (planeEntries (a + planeWords (rowOf x)) rest)
   unfolding entriesBytes planeEntries
   plane-next a e =
       ap (λ (rs : List Row). entriesBytes (planeEntries a rs)) (rows-next xs i l)
       ∙ ap (λ (t : Bool). entriesBytes (cond t (planeEntry a (rowOf x) ∷ planeEntries (a + planeWords (rowOf x)) rest) (planeEntries a rest))) e
 
-  pub plane-none : (a : ℕ) → flagged (rowOf x) ≡ false → entriesBytes (planeEntries a (rowsOf (drop i xs))) ≡ entriesBytes (planeEntries a rest)
+  pub plane-none : (a : ℕ) → protectedRow (rowOf x) ≡ false → entriesBytes (planeEntries a (rowsOf (drop i xs))) ≡ entriesBytes (planeEntries a rest)
   unfolding entriesBytes planeEntries
   plane-none a e =
       ap (λ (rs : List Row). entriesBytes (planeEntries a rs)) (rows-next xs i l)
@@ -91,7 +91,7 @@ module _ {o₀ : List ℕ} {p₀ : ℕ} {xs : List ℕ} {a₀ : ℕ} (o : List �
     abbrev B₀ : List ℕ
     B₀ = entriesBytes (planeEntries a₀ (rowsOf xs))
 
-    module _ (t : flagged row ≡ true) where
+    module _ (t : protectedRow row ≡ true) where
       abbrev there : Going o₀ p₀ B₀ o p (entryBytes (planeEntry a row) ++ entriesBytes (planeEntries (a + planeWords row) (rowsOf (drop (i + 1) xs))))
       there = subst (Going o₀ p₀ B₀ o p) (plane-next xs i l a t) (g .going)
 
@@ -113,7 +113,7 @@ module _ {o₀ : List ℕ} {p₀ : ℕ} {xs : List ℕ} {a₀ : ℕ} (o : List �
             sum = omega (arith, g .sum, left);
           })
 
-    pub plane-skip : flagged row ≡ false → PlanesGo o₀ p₀ xs a₀ o p a (i + 1)
+    pub plane-skip : protectedRow row ≡ false → PlanesGo o₀ p₀ xs a₀ o p a (i + 1)
     plane-skip t = record {
       some = omega arith;
       going = subst (Going o₀ p₀ B₀ o p) (plane-none xs i l a t) (g .going);

@@ -6,7 +6,7 @@ use Prim.Native.Nat.{ℕ, _+_, _*_, _≤_, _<_, zero-le}
 use native.Mathlib.Omega.{arith}
 use lib.ListN.{length, getD, drop}
 use lib.Seq.{drop-drop}
-use Rattle.model.specs.Writer.{Row, flagged, rowWords, planeBytes, planesBytes}
+use Rattle.model.specs.Writer.{Row, protectedRow, rowWords, planeBytes, planesBytes}
 use Rattle.plan.specs.Kept.{wordsIn, rowOf, rowsOf}
 use Rattle.put.specs.Put.{Put}
 use Rattle.put.proofs.PutLaw.{Going, begin, go-on, gone, fits}
@@ -21,13 +21,13 @@ module _ (xs : List ℕ) (i : ℕ) (l : i < length xs) where
   abbrev rest : List Row
   rest = rowsOf (drop (i + 1) xs)
 
-  pub checks-next : (b : List ℕ) → flagged (rowOf x) ≡ true → planesBytes (rowsOf (drop i xs)) b ≡ planeBytes (rowOf x) b ++ planesBytes rest (drop (8 * wordsIn x) b)
+  pub checks-next : (b : List ℕ) → protectedRow (rowOf x) ≡ true → planesBytes (rowsOf (drop i xs)) b ≡ planeBytes (rowOf x) b ++ planesBytes rest (drop (8 * wordsIn x) b)
   unfolding planesBytes
   checks-next b e =
       ap (λ (rs : List Row). planesBytes rs b) (rows-next xs i l)
       ∙ ap (λ (t : Bool). cond t (planeBytes (rowOf x) b) [] ++ planesBytes rest (drop (8 * wordsIn x) b)) e
 
-  pub checks-none : (b : List ℕ) → flagged (rowOf x) ≡ false → planesBytes (rowsOf (drop i xs)) b ≡ planesBytes rest (drop (8 * wordsIn x) b)
+  pub checks-none : (b : List ℕ) → protectedRow (rowOf x) ≡ false → planesBytes (rowsOf (drop i xs)) b ≡ planesBytes rest (drop (8 * wordsIn x) b)
   unfolding planesBytes
   checks-none b e =
       ap (λ (rs : List Row). planesBytes rs b) (rows-next xs i l)
@@ -57,7 +57,7 @@ module _ {o₀ : List ℕ} {p₀ : ℕ} {xs b : List ℕ} (o : List ℕ) (p m i 
     pub data-left : m + 8 * wordsIn it ≤ 8 * rowWords (rowsOf xs)
     data-left = omega (arith, g .sum, words-next xs i l)
 
-    module _ (t : flagged (rowOf it) ≡ true) where
+    module _ (t : protectedRow (rowOf it) ≡ true) where
       abbrev at-plane : Going o₀ p₀ C₀ o p (planeBytes (rowOf it) (drop m b) ++ planesBytes (rowsOf (drop (i + 1) xs)) (drop (m + 8 * wordsIn it) b))
       at-plane = subst (Going o₀ p₀ C₀ o p) (checks-next xs i l (drop m b) t ∙ ap (λ (d : List ℕ). planeBytes (rowOf it) (drop m b) ++ planesBytes (rowsOf (drop (i + 1) xs)) d) after) (g .going)
 
@@ -73,7 +73,7 @@ module _ {o₀ : List ℕ} {p₀ : ℕ} {xs b : List ℕ} (o : List ℕ) (p m i 
             sum = omega (arith, g .sum, words-next xs i l);
           })
 
-    pub checks-skip : {w : ℕ} → flagged (rowOf it) ≡ false → w ≡ wordsIn it → ChecksGo o₀ p₀ xs b o p (m + 8 * w) (i + 1)
+    pub checks-skip : {w : ℕ} → protectedRow (rowOf it) ≡ false → w ≡ wordsIn it → ChecksGo o₀ p₀ xs b o p (m + 8 * w) (i + 1)
     checks-skip {w} t h =
         subst (λ (k : ℕ). ChecksGo o₀ p₀ xs b o p (m + 8 * k) (i + 1)) (sym h)
         (record {

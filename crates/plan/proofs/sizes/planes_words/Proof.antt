@@ -7,7 +7,7 @@ use denote.Ref.{now}
 use lib.ListN.{length, drop, getD}
 use mathlib.Core.Logic.{⊎-elim}
 use mathlib.Core.Bool.{Bool, true, false, cond}
-use Rattle.model.specs.Writer.{Row, flagged, planeWords, planesWords}
+use Rattle.model.specs.Writer.{Row, protectedRow, planeWords, planesWords}
 use Rattle.plan.specs.Kept.{rowOf, rowsOf}
 use Rattle.plan.proofs.RowsLaw.{planes-next, rows-end}
 use Rattle.plan.proofs.sizes.planes_words.Statement.{statement}
@@ -36,11 +36,11 @@ loop-again c =
     let P : ℕ → Type 0 = λ s. (a .i + 1 ≤ length rows) × (s ≤ (a .i + 1) * 4294967295) × (s + n ≡ planesWords (rowsOf rows)) in
     ⊎-elim
     (λ w.
-    let t : flagged row ≡ true = sym (c .before .is-protected .ensures) ∙ w .0 .taken in
+    let t : protectedRow row ≡ true = sym (c .before .is-protected .ensures) ∙ w .0 .taken in
     let m : planesWords (rowsOf (drop (a .i) rows)) ≡ planeWords row + n = planes-next rows (a .i) l ∙ ap (λ (z : Bool). cond z (planeWords row) 0 + n) t in
     subst P (sym (w .2)) (omega arith, omega (arith, a .inv .1, w .1 .ensures, c .before .before .shared-slice-known2 .given (a .i) .fits), omega (arith, a .inv .2, m, w .1 .ensures)))
     (λ w.
-    let t : flagged row ≡ false = sym (c .before .is-protected .ensures) ∙ w .0 .left in
+    let t : protectedRow row ≡ false = sym (c .before .is-protected .ensures) ∙ w .0 .left in
     let m : planesWords (rowsOf (drop (a .i) rows)) ≡ 0 + n = planes-next rows (a .i) l ∙ ap (λ (z : Bool). cond z (planeWords row) 0 + n) t in
     subst P (sym (w .1)) (omega arith, omega (arith, a .inv .1), omega (arith, a .inv .2, m)))
     (c .if1 .came)

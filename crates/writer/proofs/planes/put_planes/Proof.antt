@@ -7,7 +7,7 @@ use denote.Ref.{now}
 use lib.ListN.{length, drop, length-drop, getD}
 use mathlib.Core.List.{List}
 use mathlib.Core.Logic.{⊎-elim}
-use Rattle.model.specs.Writer.{flagged, planeWords, planeBytes}
+use Rattle.model.specs.Writer.{protectedRow, planeWords, planeBytes}
 use Rattle.model.proofs.BytesLaw.{part-to-end}
 use Rattle.lemmas.proofs.PlanCodewords.{length-plane}
 use Rattle.plan.specs.Kept.{wordsIn, rowOf}
@@ -41,7 +41,7 @@ put-plane-requires c κs =
     let row : ℕ = getD (g .args .rows .now) (a .i) 0 in
     let payload : List ℕ = g .args .payload .now in
     let d : a .from + 8 * wordsIn row ≤ length payload = omega (arith, data-left _ _ _ _ (a .inv) l, g .pre .1) in (
-      omega (arith, checks-room _ _ _ _ (a .inv) l (ap (λ (x : ℕ). flagged (rowOf x)) (sym e) ∙ sym (c .before .before .before .is-protected .ensures) ∙ c .before .before .if1 .taken), length-plane (rowOf row) (drop (a .from) payload), ap (λ (x : ℕ). planeWords (rowOf x)) e),
+      omega (arith, checks-room _ _ _ _ (a .inv) l (ap (λ (x : ℕ). protectedRow (rowOf x)) (sym e) ∙ sym (c .before .before .before .is-protected .ensures) ∙ c .before .before .if1 .taken), length-plane (rowOf row) (drop (a .from) payload), ap (λ (x : ℕ). planeWords (rowOf x)) e),
       omega (arith, ap wordsIn e, ap length (part-to-end payload (a .from)), length-drop (a .from) payload),
     )
 
@@ -64,10 +64,10 @@ loop-again c =
     let n : c .words-of .result ≡ wordsIn (getD (g .rows .now) (a .i) 0) = c .words-of .ensures ∙ ap wordsIn e in
     let P : List ℕ → ℕ → ℕ → Type 0 = λ o p k. ChecksGo (g .out .now) (g .at) (g .rows .now) (g .payload .now) o p k (a .i + 1) in
     ⊎-elim
-    (λ w. carry P (w .6) (w .7) (refl {a = m}) (checks-put _ _ _ _ (a .inv) l (ap (λ (x : ℕ). flagged (rowOf x)) (sym e) ∙ sym (c .before .before .is-protected .ensures) ∙ w .0 .taken) n
+    (λ w. carry P (w .6) (w .7) (refl {a = m}) (checks-put _ _ _ _ (a .inv) l (ap (λ (x : ℕ). protectedRow (rowOf x)) (sym e) ∙ sym (c .before .before .is-protected .ensures) ∙ w .0 .taken) n
     (subst (λ (x : ℕ). Put (a .out) (a .next) (planeBytes (rowOf x) (drop (a .from) (g .payload .now))) (w .3 .result) (w .3 .last .0)) e
     (subst (λ (x : List ℕ). Put (a .out) (a .next) (planeBytes (rowOf (c .before .before .before .row-at .result)) x) (w .3 .result) (w .3 .last .0)) (part-to-end (g .payload .now) (a .from)) (w .3 .ensures)))))
-    (λ w. carry P (w .1) (w .2) (refl {a = m}) (checks-skip _ _ _ _ (a .inv) l (ap (λ (x : ℕ). flagged (rowOf x)) (sym e) ∙ sym (c .before .before .is-protected .ensures) ∙ w .0 .left) n))
+    (λ w. carry P (w .1) (w .2) (refl {a = m}) (checks-skip _ _ _ _ (a .inv) l (ap (λ (x : ℕ). protectedRow (rowOf x)) (sym e) ∙ sym (c .before .before .is-protected .ensures) ∙ w .0 .left) n))
     (c .before .if1 .came)
 
 same-length : tie.Need-same-length Inv-loop μ-loop
