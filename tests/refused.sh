@@ -5,9 +5,10 @@
 #     wrong: LABEL, at FUNCTION
 #
 # A function is proved from its own code and the promises of what it calls, so each wrong program is
-# refused by itself: the log must have an error in the proof of that function other than that a proof
-# below it failed. FUNCTION is written as in the code (module::function, Type::method), or is a file of
-# proofs where a definition was changed. The last line counts the wrong programs.
+# refused by itself: the log must have an error in the proof of that function that says more than that
+# a proof below it failed, or that a name is gone with the shape of the code. FUNCTION is written as in
+# the code (module::function, Type::method), or is a file of proofs where a definition was changed. The
+# last line counts the wrong programs.
 set -u
 cd "$(dirname "$0")/.." || exit 2
 
@@ -18,7 +19,7 @@ own_error() { # CRATE LOG AT
     *) file=proofs/$(echo "$3" | sed 's,::,/,g')/Proof.antt ;;
     esac
     CRATE=$1 AT=$3 FILE=/$file: awk '
-        / error: / && !/was not admitted/ && index($0, ENVIRON["FILE"]) { print; exit }
+        / error: / && !/was not admitted|has no field|not in scope/ && index($0, ENVIRON["FILE"]) { print; exit }
         index($0, "fn " ENVIRON["CRATE"] "::" ENVIRON["AT"] ": no proof: ") == 1 && /`search` does not close/ { print; exit }
     ' "$2"
 }
