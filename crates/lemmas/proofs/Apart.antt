@@ -13,9 +13,10 @@ use Rattle.model.specs.Refusals.{fine}
 use Rattle.model.specs.Layout.{Entry, headerLength, isPlane, hasEcc, count, directory}
 use Rattle.model.specs.Parse.{parseVerdict}
 use Rattle.model.specs.Scan.{planeOf, Codeword, codewordsFrom, isProtected, visitWith, visitOf, visitsOver, visits, wordsOf, codewordsIn, Among, here, later, codewords}
-use Rattle.model.specs.Mend.{meets, meetsAny, inHeader, apartVerdict, mendVerdict}
+use Rattle.model.specs.Mend.{meets, inHeader, mendVerdict}
 use Rattle.model.proofs.ScanLaw.{codewords-one, codewords-append}
 use Rattle.lemmas.proofs.VerdictLaw.{true-false, passed, passed-both, or-left, or-right}
+use Rattle.lemmas.proofs.ApartVerdict.{meetsAny, apartVerdict, mend-verdict}
 use Rattle.lemmas.proofs.EntriesLaw.{In, now, next, EntriesOK, ends, other-kind, Accepted, accepted-image, Plane, found-plane}
 use Rattle.lemmas.proofs.CodewordLaw.{among-append, among-from}
 use Rattle.lemmas.proofs.Fold.{Inside, Free, AllApart}
@@ -262,16 +263,17 @@ module _ (len n : ℕ) (all : List Entry) (ok : EntriesOK len all) (apart : Laid
 -- ---- of an image that mend accepts
 
 module _ (x : List ℕ) (v : mendVerdict x ≡ fine) where
+  verdicts : (parseVerdict x ≡ fine) × (apartVerdict (count x) 0 [] (directory x) ≡ fine)
+  verdicts = passed-both (parseVerdict x) (apartVerdict (count x) 0 [] (directory x)) (sym (mend-verdict x) ∙ v)
+
   pub parsed : parseVerdict x ≡ fine
-  unfolding mendVerdict
-  parsed = passed-both (parseVerdict x) (apartVerdict (count x) 0 [] (directory x)) v .0
+  parsed = verdicts .0
 
   pub accepted : Accepted x
   accepted = accepted-image x parsed
 
   pub laid : LaidApart (count x) [] (directory x)
-  unfolding mendVerdict
-  laid = laid-apart (count x) 0 [] (directory x) (passed-both (parseVerdict x) (apartVerdict (count x) 0 [] (directory x)) v .1)
+  laid = laid-apart (count x) 0 [] (directory x) (verdicts .1)
 
   pub apart : AllApart (length x) (codewords x)
   unfolding codewords visits

@@ -8,9 +8,11 @@ use lib.ListN.{length}
 use lib.Seq.{ext-getD}
 use Rattle.model.specs.Bytes.{at, thrice}
 use Rattle.model.specs.Layout.{maj3, voted, prologue, countIn, count, headerLength, directoryBytesOf, directoryBytes, header, directoryOf, directory, entries}
+use Rattle.model.specs.Refusals.{_then_}
 use Rattle.model.specs.Parse.{parseVerdict}
 use Rattle.model.specs.Scan.{visits, codewordsIn, codewords}
 use Rattle.model.specs.Mend.{mendVerdict}
+use Rattle.lemmas.proofs.ApartVerdict.{apartVerdict, mend-verdict}
 use Rattle.model.proofs.BytesLaw.{tabulate-ext, thrice-0, thrice-1, thrice-2, thrice-3}
 use Rattle.model.proofs.LayoutLaw.{maj3-same, length-voted, at-voted, length-prologue, length-directoryBytes}
 
@@ -81,8 +83,10 @@ module _ (x y : List ℕ) (l : length x ≡ length y) (s : SameHeader x y) where
   same-parse = rw (l, s .prologue≡, same-directory x y s)
 
   pub same-verdict : mendVerdict x ≡ mendVerdict y
-  unfolding mendVerdict
-  same-verdict = rw (same-parse, same-directory x y s, s .count≡)
+  same-verdict = mend-verdict x ∙ same-walk ∙ sym (mend-verdict y)
+    where
+      same-walk : (parseVerdict x then apartVerdict (count x) 0 [] (directory x)) ≡ (parseVerdict y then apartVerdict (count y) 0 [] (directory y))
+      same-walk = rw (same-parse, same-directory x y s, s .count≡)
 
 -- it is enough that x has the votes of y at the places that y's count gives
 pub same-votes : (x y : List ℕ) → prologue x ≡ prologue y → directoryBytesOf (count y) x ≡ directoryBytes y → SameHeader x y

@@ -14,6 +14,7 @@ use Rattle.model.specs.Layout.{voted, prologue, countIn, count, headerLength, d
 use Rattle.model.specs.Parse.{prologueVerdict, parseVerdict}
 use Rattle.model.specs.Scan.{visits, Among, codewordsIn, codewords}
 use Rattle.model.specs.Mend.{mendVerdict}
+use Rattle.lemmas.proofs.ApartVerdict.{mend-verdict}
 use Rattle.model.specs.Writer.{Row, protectedRow, planeWords, rowEntry, rowEntries, planeEntry, planeEntries, rowWords, planesWords, planes, regions, firstWord, planDirectory, entryBytes, entriesBytes, prologueStart, prologueBytes, checks, planeBytes, planesBytes, planImage, imageLength}
 use Rattle.model.proofs.BytesLaw.{read-leBytes, at-left, at-right, length-thrice}
 use Rattle.model.proofs.ParseLaw.{good-prologue, entries-say}
@@ -354,5 +355,4 @@ module _ (rs : List Row) (payload : List ℕ) (ok : PlanOK rs payload) where
   packed = packed-append (packed-rows (firstWord rs) rs) (packed-planes (firstWord rs + rowWords rs) rs)
 
   pub mend-fine : mendVerdict (planImage rs payload) ≡ fine
-  unfolding mendVerdict
-  mend-fine = rw (parse-fine, count-is, directory-back) (packed-apart (regions rs) 0 [] (omega arith) packed Before.nil)
+  mend-fine = mend-verdict (planImage rs payload) ∙ rw (parse-fine, count-is, directory-back) (packed-apart (regions rs) 0 [] (omega arith) packed Before.nil)

@@ -1,5 +1,6 @@
 pub mod VerdictLaw
 pub mod BytesLow
+pub mod ApartVerdict
 pub mod HeaderLaw
 pub mod EntriesLaw
 pub mod CodewordLaw

@@ -12,7 +12,8 @@ use lib.Dec.{ltb}
 use Rattle.model.specs.Refusals.{fine, refuse, _then_, refuseIf, overlappingRegions}
 use Rattle.model.specs.Layout.{Entry, headerLength, start}
 use Rattle.model.specs.Views.{nth}
-use Rattle.model.specs.Mend.{InRegion, LaidApart, Misplaced, onHeader, onEarlier, FirstMisplaced, meets, meetsAny, inHeader, apartVerdict}
+use Rattle.model.specs.Mend.{InRegion, LaidApart, Misplaced, onHeader, onEarlier, FirstMisplaced, meets, inHeader}
+use Rattle.lemmas.proofs.ApartVerdict.{meetsAny, apartVerdict}
 use Rattle.lemmas.proofs.VerdictLaw.{true-false, passed, or-left, or-right, or-true}
 use Rattle.lemmas.proofs.EntriesLaw.{In, now, next}
 

@@ -1,4 +1,4 @@
--- Where an image's regions lie: the verdict is mend's, and what a misplaced entry is said to lie on it lies on. Assumes nothing.
+-- Where an image's regions lie: what a misplaced entry is said to lie on it lies on. Assumes nothing.
 use mathlib.Core.Path.{_≡_, refl, sym, ap, _∙_, subst}
 use mathlib.Core.Bool.{Bool, true, false, _||_, cond, or-true, or-false}
 use mathlib.Core.List.{List, [], _∷_, _++_, append-assoc}
@@ -14,27 +14,13 @@ use Rattle.model.specs.Refusals.{Verdict, fine, refuse, _then_, refuseIf, overl
 use Rattle.model.specs.Layout.{Entry, count, directory, headerLength, start}
 use Rattle.model.specs.Views.{nth}
 use Rattle.model.specs.Parse.{Header, parsedAs, headerOf, parse, parseVerdict}
-use Rattle.model.specs.Mend.{InRegion, meets, meetsAny, meetsFrom, inHeader, apartVerdict, mendVerdict, Placement, placedApart, overHeader, overRegion, refusedPlacement, placementAs, placementFrom, placementOf, placement, placementVerdict}
+use Rattle.model.specs.Mend.{InRegion, meets, meetsFrom, inHeader, Placement, placedApart, overHeader, overRegion, refusedPlacement, placementAs, placementFrom, placementOf, placement, placementVerdict}
 use Rattle.model.specs.Placement.{OnHeader, OnRegion, TrueOf}
-use Rattle.lemmas.specs.Steps.{isSome}
+use Rattle.lemmas.proofs.ApartVerdict.{apartVerdict, verdict-all}
 use Rattle.lemmas.proofs.VerdictLaw.{true-false}
 use Rattle.lemmas.proofs.MisplacedLaw.{both, shared-byte, meets-byte, one-entry, accepts-apart, names-first}
 
 -- ---- the first entry that is met
-
-pub met-last : (j : ℕ) (e : Entry) (fs : List Entry) (g : Entry) → isSome (meetsFrom j e (fs ++ (g ∷ []))) ≡ meets e g || isSome (meetsFrom j e fs)
-unfolding meetsFrom
-met-last j e [] g = one (meets e g) ∙ sym (or-false (meets e g))
-  where
-    one : (t : Bool) → isSome (cond t (some j) none) ≡ t
-    one true = refl
-    one false = refl
-met-last j e (f ∷ fs) g = go (meets e f) (met-last (suc j) e fs g)
-  where
-    go : (t : Bool) → isSome (meetsFrom (suc j) e (fs ++ (g ∷ []))) ≡ meets e g || isSome (meetsFrom (suc j) e fs)
-        → isSome (cond t (some j) (meetsFrom (suc j) e (fs ++ (g ∷ [])))) ≡ meets e g || isSome (cond t (some j) (meetsFrom (suc j) e fs))
-    go true r = sym (or-true (meets e g))
-    go false r = r
 
 -- entry k of fs is the first that shares a byte with e
 record FirstMet (e : Entry) (fs : List Entry) (k : ℕ) : Type 0 where
@@ -62,43 +48,6 @@ first-met j e (f ∷ fs) m h = go (meets e f) refl h (λ u. first-met (suc j) e 
             → nth l (f ∷ fs) ≡ some a → meets e a ≡ false
         low k b zero h a n = ap (meets e) (one-entry a f (sym n)) ∙ g
         low k b (suc l) h a n = b l (le-of-suc-le-suc h) a n
-
--- ---- the verdict
-
--- the entries before i, in order and the nearest first
-verdict-from : (h : Header) (i : ℕ) (earlier nearest es : List Entry) → ((e : Entry) → isSome (meetsFrom 0 e earlier) ≡ meetsAny e nearest)
-    → placementVerdict (placementFrom h i earlier es) ≡ apartVerdict (h .regions) i nearest es
-unfolding placementFrom apartVerdict
-verdict-from h i earlier nearest [] s = refl
-verdict-from h i earlier nearest (e ∷ es) s =
-    go (inHeader (h .regions) e) (meetsFrom 0 e earlier) (meetsAny e nearest) (s e)
-    (verdict-from h (suc i) (earlier ++ (e ∷ [])) (e ∷ nearest) es (λ f. same f))
-  where
-    same : (f : Entry) → isSome (meetsFrom 0 f (earlier ++ (e ∷ []))) ≡ meetsAny f (e ∷ nearest)
-    same f = met-last 0 f earlier e ∙ ap (λ (t : Bool). meets f e || t) (s f) ∙ sym (any-next f)
-      where
-        any-next : (f : Entry) → meetsAny f (e ∷ nearest) ≡ meets f e || meetsAny f nearest
-        any-next f = unfold meetsAny in refl
-
-    go : (t : Bool) (o : Option ℕ) (u : Bool) → isSome o ≡ u
-        → placementVerdict (placementFrom h (suc i) (earlier ++ (e ∷ [])) es) ≡ apartVerdict (h .regions) (suc i) (e ∷ nearest) es
-        → placementVerdict (placementAs t o i (placementFrom h (suc i) (earlier ++ (e ∷ [])) es))
-        ≡ (refuseIf (t || u) overlappingRegions i then apartVerdict (h .regions) (suc i) (e ∷ nearest) es)
-    go true o u q r = refl
-    go false (some j) u q r = ap (λ (z : Bool). refuseIf z overlappingRegions i then apartVerdict (h .regions) (suc i) (e ∷ nearest) es) q
-    go false none u q r = r ∙ ap (λ (z : Bool). refuseIf z overlappingRegions i then apartVerdict (h .regions) (suc i) (e ∷ nearest) es) q
-
-verdict-all : (x : List ℕ) → placementVerdict (placementFrom (headerOf x) 0 [] (directory x)) ≡ apartVerdict (count x) 0 [] (directory x)
-unfolding headerOf meetsFrom meetsAny
-verdict-all x = verdict-from (headerOf x) 0 [] [] (directory x) (λ e. refl)
-
-pub placement-verdict : (x : List ℕ) → placementVerdict (placement x) ≡ mendVerdict x
-unfolding placement mendVerdict parse
-placement-verdict x = go (parseVerdict x)
-  where
-    go : (v : Verdict) → placementVerdict (placementOf (parsedAs v (headerOf x)) (directory x)) ≡ (v then apartVerdict (count x) 0 [] (directory x))
-    go fine = verdict-all x
-    go (refuse n d) = refl
 
 -- ---- what it names
 

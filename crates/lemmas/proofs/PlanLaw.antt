@@ -11,7 +11,8 @@ use lib.ListN.{length}
 use Rattle.model.specs.Refusals.{Verdict, fine, refuse, _then_, refuseIf}
 use Rattle.model.specs.Layout.{Entry, headerLength}
 use Rattle.model.specs.Parse.{among}
-use Rattle.model.specs.Mend.{meets, meetsAny, inHeader, apartVerdict}
+use Rattle.model.specs.Mend.{meets, inHeader}
+use Rattle.lemmas.proofs.ApartVerdict.{meetsAny, apartVerdict}
 use Rattle.model.specs.Writer.{Row, protectedRow, planeWords, rowEntry, rowEntries, planeEntry, planeEntries, rowWords, planesWords, regions, firstWord, planDirectory, planImage, kindAmong, rowsVerdict, imageLength, planVerdict, image, writeAs, write}
 use Rattle.lemmas.proofs.VerdictLaw.{true-false, passed, passed-both, passes, or-left, or-right, or-none, or-true, and-false}
 use Rattle.lemmas.proofs.EntriesLaw.{EntriesOK, among-append}

@@ -17,7 +17,7 @@ use Rattle.model.specs.Views.{tableSpan, tableVerdict, bytesSpan, Span, 
 use Rattle.model.specs.Parity.{columns, find, isOdd, classOf, checkOf, syndrome, decode, flipWord}
 use Rattle.model.specs.Scan.{planeOf, isProtected, visitOf, visitsOver, visits, codewordsFrom, wordsOf, codewordsIn, codewords, total, report, classAt, classesAt, scanOf, scan}
 use Rattle.model.specs.Scrub.{scrub, scrubFrom, scrubRegion, scrubVisits, scrubWords, scrubWord, Scrubbed}
-use Rattle.model.specs.Mend.{meets, meetsAny, inHeader, apartVerdict, mendVerdict, fixAt, fixAll, mendBytes, changesFrom, changes, changed, mend, MendAnswer, refusedMend, mended}
+use Rattle.model.specs.Mend.{meets, meetsFrom, inHeader, placementFrom, placement, mendVerdict, fixAt, fixAll, mendBytes, changesFrom, changes, changed, mend, MendAnswer, refusedMend, mended}
 use Rattle.model.specs.Programs.{text, digits, decimal, field, tooLongLine, refusedLine, regionsLine, eccLine, storedLine, lines, look, mendWithin, reportText, scrubImage, scrubLine, scrubText}
 use Rattle.model.specs.Writer.{Row, rowEntries, planeEntry, planeEntries, rowWords, planesWords, planes, regions, planDirectory, entryBytes, entriesBytes, prologueStart, prologueBytes, checks, planeBytes, planesBytes, planImage, kindAmong, rowsVerdict, imageLength, planVerdict, write, image, refusedPlan}
 
@@ -28,7 +28,7 @@ unfolding parse parseVerdict headerVerdict prologueVerdict entriesVerdict among 
 parsing x = parse x
 
 mending : List ℕ → MendAnswer
-unfolding parsing mend mendVerdict mendBytes header apartVerdict meets meetsAny inHeader codewords visits visitsOver visitOf isProtected planeOf firstThat codewordsIn wordsOf codewordsFrom fixAll fixAt classAt decode syndrome checkOf columns find isOdd ones classOf xorColumns flipWord leBytes scan scanOf report classesAt total changed changes changesFrom
+unfolding parsing mend mendVerdict mendBytes header placement placementFrom meets meetsFrom inHeader codewords visits visitsOver visitOf isProtected planeOf firstThat codewordsIn wordsOf codewordsFrom fixAll fixAt classAt decode syndrome checkOf columns find isOdd ones classOf xorColumns flipWord leBytes scan scanOf report classesAt total changed changes changesFrom
 mending x = mend x
 
 scrubbing : List ℕ → Scrubbed

@@ -64,23 +64,9 @@ pub record MendRule (x y : List ℕ) : Type 0 where
 unfoldable pub meets : Entry → Entry → Bool
 meets e f = (ltb 0 (e .words) && ltb 0 (f .words)) && (ltb (e .offset) (f .offset + f .words) && ltb (f .offset) (e .offset + e .words))
 
-unfoldable pub meetsAny : Entry → List Entry → Bool
-meetsAny e [] = false
-meetsAny e (f ∷ fs) = meets e f || meetsAny e fs
-
 -- a non-empty region starts inside the header of n entries
 unfoldable pub inHeader : ℕ → Entry → Bool
 inHeader n e = ltb 0 (e .words) && ltb (start e) (headerLength n)
-
--- the first non-empty entry that starts inside the header or shares a byte with an earlier non-empty entry
-unfoldable pub apartVerdict : ℕ → ℕ → List Entry → List Entry → Verdict
-apartVerdict n i earlier [] = fine
-apartVerdict n i earlier (e ∷ es) =
-    refuseIf (inHeader n e || meetsAny e earlier) overlappingRegions i then
-    apartVerdict n (suc i) (e ∷ earlier) es
-
-unfoldable pub mendVerdict : List ℕ → Verdict
-mendVerdict x = parseVerdict x then apartVerdict (count x) 0 [] (directory x)
 
 -- what a misplaced entry lies on: the header, or else the lowest earlier entry that it shares a byte with
 
@@ -116,12 +102,15 @@ placementOf (refused n d) es = refusedPlacement n d
 unfoldable pub placement : List ℕ → Placement
 placement x = placementOf (parse x) (directory x)
 
--- a placement as a verdict (`placement-verdict` in the crate lemmas: that of an image is mend's)
 abbrev pub placementVerdict : Placement → Verdict
 placementVerdict (placedApart h) = fine
 placementVerdict (overHeader i) = refuse overlappingRegions i
 placementVerdict (overRegion i j) = refuse overlappingRegions i
 placementVerdict (refusedPlacement n d) = refuse n d
+
+-- parse's refusal, or the first misplaced entry
+unfoldable pub mendVerdict : List ℕ → Verdict
+mendVerdict x = placementVerdict (placement x)
 
 -- ---- the procedure: one examined word after the other (`mend-is-the-rule` in the crate theorems: it leaves what the rule says, and nothing else meets the rule)
 

@@ -17,7 +17,7 @@ use Rattle.view.specs.Answers.{asHeader, asParsed}
 use Rattle.view.proofs.AnswersLaw.{parsed-fine, parsed-count}
 use Rattle.view.proofs.EntriesForLaw.{entriesFor-is}
 use Rattle.model.specs.Placement.{TrueOf}
-use Rattle.lemmas.proofs.PlacementLaw.{placement-verdict, placement-named}
+use Rattle.lemmas.proofs.PlacementLaw.{placement-named}
 use Rattle.overlap.specs.declared.Placement.{Placement}
 use Rattle.overlap.specs.declared.Placement.the-variants as is
 use Rattle.overlap.specs.Answers.{asPlacement}
@@ -43,7 +43,8 @@ module _ (x : List ℕ) (r : ParseResult) (e : asParsed r ≡ parse x) where
 
 module _ (x : List ℕ) (r : Placement) (e : asPlacement r ≡ placement x) where
   pub placed-verdict : mendVerdict x ≡ placementVerdict (asPlacement r)
-  placed-verdict = sym (ap placementVerdict e ∙ placement-verdict x)
+  unfolding mendVerdict
+  placed-verdict = ap placementVerdict (sym e)
 
   pub placed-parse : (h : Header) → r ≡ is.Apart h → accepted (asHeader h) ≡ parse x
   placed-parse h f = sym (subst (TrueOf x) (sym (ap asPlacement (sym f) ∙ e)) (placement-named x) .0)

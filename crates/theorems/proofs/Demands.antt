@@ -150,8 +150,8 @@ pub mend-refuses-exactly : (x : List ℕ)
 mend-refuses-exactly x = (as-parse x, only-overlap x, overlap-always x, else-mends x)
 
 -- What the check behind refusal 12 names is so: the first misplaced entry with the header that it starts inside, or else with the lowest earlier entry that it shares a byte with.
-pub placement-named : (x : List ℕ) → (placementVerdict (placement x) ≡ mendVerdict x) × TrueOf x (placement x)
-placement-named x = (placed.placement-verdict x, placed.placement-named x)
+pub placement-named : (x : List ℕ) → TrueOf x (placement x)
+placement-named x = placed.placement-named x
 
 -- "Writer equals the format's rules." A plan that meets no refusal's condition is written: the image at the front of `out`, every byte behind it as it was.
 pub writes-exactly : (rows : List Row) (payload out : List ℕ) (r : WriteResult) (after : List ℕ) → Writes rows payload out r after

@@ -11,7 +11,8 @@ use Rattle.model.specs.Crc.{crc32}
 use Rattle.model.specs.Layout.{prologue, magicIn, markerIn, versionIn, countIn, checksumIn, count, headerLength, directory, Entry, end}
 use Rattle.model.specs.Parse.{prologueVerdict, among, entriesVerdict, headerVerdict, parseVerdict, Header, headerOf, accepted, refused, parsedAs, parse}
 use Rattle.model.specs.Scan.{scan}
-use Rattle.model.specs.Mend.{LaidApart, FirstMisplaced, apartVerdict, mendVerdict, mendBytes, changed, whole, mended, refusedMend, mendAs, mend}
+use Rattle.lemmas.proofs.ApartVerdict.{apartVerdict, mend-verdict}
+use Rattle.model.specs.Mend.{LaidApart, FirstMisplaced, mendVerdict, mendBytes, changed, whole, mended, refusedMend, mendAs, mend}
 use Rattle.lemmas.proofs.MisplacedLaw.{placed, accepts-apart, names-first}
 
 -- ---- parse has no number from 12 on
@@ -72,8 +73,8 @@ module _ (x : List ℕ) where
 
   -- by the two verdicts, in mend's order
   mend-by : (u v : Verdict) → parseVerdict x ≡ u → apartVerdict (count x) 0 [] (directory x) ≡ v → mend x ≡ mendAs (u then v) x (mendBytes x) (scan x)
-  unfolding mend mendVerdict
-  mend-by u v a b = rw (a, b) refl
+  unfolding mend
+  mend-by u v a b = rw (mend-verdict x, a, b) refl
 
   parsed : (k : Header) → parse x ≡ accepted k → parseVerdict x ≡ fine
   unfolding parse

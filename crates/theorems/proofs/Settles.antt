@@ -14,7 +14,8 @@ use Rattle.model.specs.Parse.{parseVerdict, accepted, headerOf, parse}
 use Rattle.model.specs.Parity.{decode}
 use Rattle.model.specs.Scan.{visits, Among, codewords, isCorrected, isUncorrectable, total, classesAt, Report, report, scan}
 use Rattle.model.specs.Scrub.{scrub}
-use Rattle.model.specs.Mend.{LaidApart, apartVerdict, mendVerdict, MendRule, mendBytes, noneUncorrectable, mended, mend}
+use Rattle.lemmas.proofs.ApartVerdict.{apartVerdict, mend-verdict}
+use Rattle.model.specs.Mend.{LaidApart, mendVerdict, MendRule, mendBytes, noneUncorrectable, mended, mend}
 use Rattle.model.proofs.BytesLaw.{at-left, at-right, length-thrice}
 use Rattle.model.proofs.LayoutLaw.{length-prologue, length-directoryBytes, differs-not}
 use Rattle.model.proofs.ScanLaw.{length-classes, scan-all}
@@ -124,9 +125,8 @@ module _ (x y : List ℕ) (r : Option Report) (k : ℕ) (t : Bool) (b : Bytes x)
       × (directory y ≡ directory x)
       × LaidApart (count y) (directory y)
       × (scan y ≡ uncorrected r)
-  unfolding mendVerdict
   fresh =
-      let v = passed-both (parseVerdict y) (apartVerdict (count y) 0 [] (directory y)) fine-again in
+      let v = passed-both (parseVerdict y) (apartVerdict (count y) 0 [] (directory y)) (sym (mend-verdict y) ∙ fine-again) in
       let long : headerLength (count y) ≤ length y = accepted-image y (v .0) .long in (
         parses y long (stays .copies) (v .0) ∙ ap (λ (n : ℕ). accepted (record { regions = n; prologueDisagreed = false; directoryDisagreed = false })) (same .count≡),
         none-wanted y long (stays .copies),
