@@ -1,4 +1,4 @@
--- `arguments::path::followed` meets its contract. Assumes nothing.
+-- `paths::followed` meets its contract. Assumes nothing.
 use mathlib.Core.Path.{_≡_, sym, ap, _∙_}
 use mathlib.Core.Bool.{true, false}
 use mathlib.Core.List.{List, [], _++_}
@@ -9,10 +9,10 @@ use borrow.Author.Tests.{lt-ltb, le-ltb}
 use lib.ListN.{length, length-append}
 use lib.Seq.{sets}
 use Rattle.io.proofs.Counting.{counts}
-use Rattle.arguments.specs.Paths.{folder, rooted, followedName}
-use Rattle.arguments.proofs.ArgumentsLaw.{folder-fits, name-put}
-use Rattle.arguments.proofs.path.followed.Statement.{statement}
-use Rattle.arguments.proofs.path.followed.Tie as tie
+use Rattle.paths.specs.Paths.{folder, rooted, followedName}
+use Rattle.paths.proofs.PathsLaw.{folder-fits, name-put}
+use Rattle.paths.proofs.followed.Statement.{statement}
+use Rattle.paths.proofs.followed.Tie as tie
 
 module _ (p l : List ℕ) where
   unnamed : 4096 < length p → [] ≡ followedName p l

@@ -1,4 +1,4 @@
--- `arguments::path::folder_length` meets its contract. The invariant: the last slash is that of what is left, with the one found so far. Assumes nothing.
+-- `paths::folder_length` meets its contract. The invariant: the last slash is that of what is left, with the one found so far. Assumes nothing.
 use mathlib.Core.Path.{_≡_, refl, sym, ap, ap₂, _∙_, subst}
 use mathlib.Core.Bool.{cond}
 use Prim.Native.Nat.{ℕ, suc, _+_, _-_, _≤_}
@@ -8,10 +8,10 @@ use borrow.Author.Needs.{needs}
 use lib.Dec.{eqb}
 use lib.ListN.{length, getD, drop}
 use Rattle.io.proofs.Counting.{counts}
-use Rattle.arguments.specs.Paths.{behindSlash, folderLength}
-use Rattle.arguments.proofs.ArgumentsLaw.{slash-next, slash-all, slash-fits}
-use Rattle.arguments.proofs.path.folder_length.Statement.{statement}
-use Rattle.arguments.proofs.path.folder_length.Tie as tie
+use Rattle.paths.specs.Paths.{behindSlash, folderLength}
+use Rattle.paths.proofs.PathsLaw.{slash-next, slash-all, slash-fits}
+use Rattle.paths.proofs.folder_length.Statement.{statement}
+use Rattle.paths.proofs.folder_length.Tie as tie
 
 abbrev Inv-loop : tie.InvT-loop
 Inv-loop path last₀ i₀ last i = (last ≤ i) × ((i ≤ length path) × (behindSlash (drop i path) i last ≡ folderLength path))

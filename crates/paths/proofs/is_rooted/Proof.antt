@@ -1,4 +1,4 @@
--- `arguments::path::is_rooted` meets its contract. Assumes nothing.
+-- `paths::is_rooted` meets its contract. Assumes nothing.
 use mathlib.Core.Path.{_≡_, refl}
 use mathlib.Core.Bool.{false}
 use mathlib.Core.List.{List, [], _∷_}
@@ -6,9 +6,9 @@ use Prim.Native.Nat.{ℕ, _≤_}
 use native.Mathlib.Omega.{arith}
 use borrow.Author.Needs.{needs}
 use lib.ListN.{length}
-use Rattle.arguments.specs.Paths.{rooted}
-use Rattle.arguments.proofs.path.is_rooted.Statement.{statement}
-use Rattle.arguments.proofs.path.is_rooted.Tie as tie
+use Rattle.paths.specs.Paths.{rooted}
+use Rattle.paths.proofs.is_rooted.Statement.{statement}
+use Rattle.paths.proofs.is_rooted.Tie as tie
 
 none : (x : List ℕ) → length x ≤ 0 → false ≡ rooted x
 unfolding rooted

@@ -1,4 +1,4 @@
--- `arguments::path::temporary` meets its contract. Assumes nothing.
+-- `paths::temporary` meets its contract. Assumes nothing.
 use mathlib.Core.Path.{_≡_, ap}
 use mathlib.Core.List.{List, [], _++_}
 use Prim.Native.Nat.{ℕ, _≤_, _<_, zero-le}
@@ -9,10 +9,10 @@ use lib.ListN.{length, length-append}
 use lib.Seq.{sets}
 use Rattle.io.proofs.Counting.{counts}
 use Rattle.model.specs.Programs.{text}
-use Rattle.arguments.specs.Paths.{folder, temporaryName}
-use Rattle.arguments.proofs.ArgumentsLaw.{folder-fits, name-put}
-use Rattle.arguments.proofs.path.temporary.Statement.{statement}
-use Rattle.arguments.proofs.path.temporary.Tie as tie
+use Rattle.paths.specs.Paths.{folder, temporaryName}
+use Rattle.paths.proofs.PathsLaw.{folder-fits, name-put}
+use Rattle.paths.proofs.temporary.Statement.{statement}
+use Rattle.paths.proofs.temporary.Tie as tie
 
 unnamed : (p : List ℕ) → 4096 < length p → [] ≡ temporaryName p
 unfolding temporaryName

@@ -1,4 +1,4 @@
-// The names of the files that the command writes. Each function puts a name at the start of out and gives its length. (FORMAT 14)
+// The names of the files that the command writes. A name is put at the start of out, and its length given. (FORMAT 14)
 ghost use mathlib.Core.Path.{_≡_};
 ghost use mathlib.Core.Bool.{cond};
 ghost use mathlib.Core.List.{_++_};
@@ -8,7 +8,7 @@ ghost use lib.ListN.{length};
 ghost use lib.Seq.{sets};
 ghost use Rattle.io.specs.Counts.{Counts};
 ghost use Rattle.put.specs.Put.{Put};
-ghost use Rattle.arguments.specs.Paths.{folderLength, folder, temporaryName, rooted, followedName};
+ghost use Rattle.paths.specs.Paths.{folderLength, folder, temporaryName, rooted, followedName};
 use put::put_bytes;
 
 const LONGEST_NAME: usize = 4096;

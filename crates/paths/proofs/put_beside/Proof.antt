@@ -1,4 +1,4 @@
--- `arguments::path::put_beside` meets its contract: the folder, and the name behind it. Assumes nothing.
+-- `paths::put_beside` meets its contract: the folder, and the name behind it. Assumes nothing.
 use mathlib.Core.Path.{subst}
 use mathlib.Core.List.{_++_}
 use Prim.Native.Nat.{ℕ}
@@ -6,8 +6,8 @@ use borrow.Author.Needs.{needs}
 use lib.ListN.{take}
 use Rattle.put.specs.Put.{Put}
 use Rattle.put.proofs.PutLaw.{put-two}
-use Rattle.arguments.proofs.path.put_beside.Statement.{statement}
-use Rattle.arguments.proofs.path.put_beside.Tie as tie
+use Rattle.paths.proofs.put_beside.Statement.{statement}
+use Rattle.paths.proofs.put_beside.Tie as tie
 
 returns : tie.Need-returns
 returns c =
