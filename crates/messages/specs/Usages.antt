@@ -6,7 +6,7 @@ use lib.Dec.{eqb, ltb}
 use lib.ListN.{length}
 use Rattle.model.specs.Programs.{text}
 use Rattle.arguments.specs.Arguments.{report, mend, noCommand, noSuchCommand, noSuchOption, noFile, secondFile, noOutput, secondOutput}
-use Rattle.messages.specs.Sentences.{naming}
+use Rattle.messages.specs.Complaints.{naming}
 
 unfoldable pub reportHelp : List ℕ
 reportHelp = text "usage: kw report FILE...\n\nSays of each image how many regions it has, whether a copy of its header is\ndamaged, and how many protected words were examined, can be corrected and can't.\n"
