@@ -1,17 +1,12 @@
--- Two texts byte by byte, and the last slash of a path. Assumes nothing.
+-- Two texts byte by byte. Assumes nothing.
 use mathlib.Core.Path.{_≡_, refl, sym, ap, ap₂, _∙_}
-use mathlib.Core.Bool.{Bool, true, false, _&&_, cond}
+use mathlib.Core.Bool.{Bool, true, false, _&&_}
 use mathlib.Core.List.{List, [], _∷_}
 use Prim.Native.Nat.{ℕ, suc, _≤_, _<_}
-use native.Mathlib.Omega.{arith}
 use lib.Dec.{eqb}
-use lib.ListN.{length, getD, drop, length-take, drop-of-length-le}
-use lib.Seq.{sets, drop-cons}
-use Rattle.io.specs.Counts.{Counts}
-use Rattle.io.proofs.Counting.{counts}
-use Rattle.put.specs.Put.{Put}
+use lib.ListN.{length, getD, drop, drop-of-length-le}
+use lib.Seq.{drop-cons}
 use Rattle.arguments.specs.Arguments.{same}
-use Rattle.arguments.specs.Paths.{behindSlash, folderLength, folder}
 
 never : (b : Bool) → (b && false) ≡ false
 never true = refl
@@ -34,25 +29,3 @@ module _ (a b : List ℕ) (i : ℕ) where
   pub same-all : length a ≤ i → length b ≤ i → same (drop i a) (drop i b) ≡ true
   unfolding same
   same-all h k = ap₂ same (drop-of-length-le a h) (drop-of-length-le b k)
-
-pub slash-next : (p : List ℕ) (i last : ℕ) → i < length p → behindSlash (drop i p) i last ≡ behindSlash (drop (suc i) p) (suc i) (cond (eqb (getD p i 0) 47) (suc i) last)
-unfolding behindSlash
-slash-next p i last h = ap (λ (x : List ℕ). behindSlash x i last) (drop-cons p i 0 h)
-
-pub slash-all : (p : List ℕ) (i last : ℕ) → length p ≤ i → behindSlash (drop i p) i last ≡ last
-unfolding behindSlash
-slash-all p i last h = ap (λ (x : List ℕ). behindSlash x i last) (drop-of-length-le p h)
-
-pub slash-fits : (b : Bool) (n last : ℕ) → last ≤ n → cond b n last ≤ n
-slash-fits true n last h = omega arith
-slash-fits false n last h = h
-
--- a folder is part of its path
-pub folder-fits : (p : List ℕ) → length (folder p) ≤ length p
-folder-fits p = omega (arith, length-take (folderLength p) p)
-
--- a name from the front of a buffer on, where it fits
-pub name-put : (o a b : List ℕ) {r : ℕ} {o′ : List ℕ} → Put o 0 a r o′ → a ≡ b → r ≤ length o′ → (r ≡ length b) × ((o′ ≡ sets o 0 b) × Counts r o′)
-name-put o a b {r} {o′} h e fits =
-    let n : r ≡ length a = omega (arith, h .behind) in
-    (n ∙ ap length e, (h .stored ∙ ap (sets o 0) e, counts r o′ fits))

@@ -53,14 +53,18 @@ is x s = same x (text s)
 unfoldable pub dashed : List ℕ → Bool
 dashed x = ltb 1 (length x) && eqb (getD x 0 0) 45
 
+unfoldable pub longOptionOf : List ℕ → ℕ
+longOptionOf x =
+    cond (is x "--help") helpOption
+    (cond (is x "--version") versionOption
+    (cond (dashed x) otherOption aName))
+
 unfoldable pub optionOf : List ℕ → ℕ
 optionOf x =
     cond (is x "-o") outputOption
     (cond (is x "--") endOfOptions
     (cond (is x "-h") helpOption
-    (cond (is x "--help") helpOption
-    (cond (is x "--version") versionOption
-    (cond (dashed x) otherOption aName)))))
+    (longOptionOf x)))
 
 unfoldable pub wordOf : List ℕ → ℕ
 wordOf x =

@@ -49,6 +49,21 @@ fn is_dashed(argument: &[u8]) -> bool
     }
 }
 
+fn long_option(argument: &[u8]) -> u8
+    ensures { λ r. ⌜ r ≡ model.longOptionOf (now (argument .entry)) ⌝ }
+{
+    if same(argument, b"--help") {
+        return HELP_OPTION;
+    }
+    if same(argument, b"--version") {
+        return VERSION_OPTION;
+    }
+    if is_dashed(argument) {
+        return OTHER_OPTION;
+    }
+    NAME
+}
+
 fn option(argument: &[u8]) -> u8
     ensures { λ r. ⌜ r ≡ model.optionOf (now (argument .entry)) ⌝ }
 {
@@ -61,16 +76,7 @@ fn option(argument: &[u8]) -> u8
     if same(argument, b"-h") {
         return HELP_OPTION;
     }
-    if same(argument, b"--help") {
-        return HELP_OPTION;
-    }
-    if same(argument, b"--version") {
-        return VERSION_OPTION;
-    }
-    if is_dashed(argument) {
-        return OTHER_OPTION;
-    }
-    NAME
+    long_option(argument)
 }
 
 pub fn word(argument: &[u8]) -> u8

@@ -1,7 +1,6 @@
-// What the command's arguments ask for, and the names of the files that it writes. (FORMAT 14)
+// What the command's arguments ask for. (FORMAT 14)
 mod argument;
 mod invocation;
-mod path;
 
 pub use argument::HELP;
 pub use argument::MEND;
@@ -21,6 +20,3 @@ pub use invocation::finish;
 pub use invocation::reports_on;
 pub use invocation::start;
 pub use invocation::step;
-pub use path::folder_length;
-pub use path::followed;
-pub use path::temporary;

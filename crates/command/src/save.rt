@@ -56,7 +56,7 @@ fn follow(n: usize, target: &mut [u8]) -> usize
         return n;
     }
     let mut next = [0u8; 8192];
-    let m = arguments::followed(&target[..n], &link[..k], &mut next);
+    let m = paths::followed(&target[..n], &link[..k], &mut next);
     copied(&next[..m], target)
 }
 
@@ -90,7 +90,7 @@ fn fill(file: i32, about: FileKind, image: &[u8]) -> bool {
 }
 
 fn sync_folder(target: &[u8]) {
-    let n = arguments::folder_length(target);
+    let n = paths::folder_length(target);
     if n == 0 {
         sync(b".");
     } else {
@@ -109,7 +109,7 @@ fn sync(folder: &[u8]) {
 // Writes the image beside target and renames it over it. Where that fails, it says why, and leaves no file of its own.
 fn replace(name: &[u8], target: &[u8], about: FileKind, image: &[u8]) -> bool {
     let mut beside = [0u8; 8192];
-    let n = arguments::temporary(target, &mut beside);
+    let n = paths::temporary(target, &mut beside);
     replace_by(name, &mut beside[..n], target, about, image)
 }
 

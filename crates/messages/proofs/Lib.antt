@@ -1,1 +1,2 @@
+pub mod SaidLaw
 pub mod OneAnswer

@@ -6,7 +6,7 @@ use lib.Dec.{eqb, ltb}
 use lib.ListN.{length}
 use Rattle.model.specs.Programs.{text}
 use Rattle.arguments.specs.Arguments.{report, mend, noCommand, noSuchCommand, noSuchOption, noFile, secondFile, noOutput, secondOutput}
-use Rattle.messages.specs.Sentences.{naming}
+use Rattle.messages.specs.Complaints.{naming}
 
 unfoldable pub reportHelp : List ℕ
 reportHelp = text "usage: kw report FILE...\n\nSays of each image how many regions it has, whether a copy of its header is\ndamaged, and how many protected words were examined, can be corrected and can't.\n"
@@ -24,16 +24,24 @@ helpText topic = cond (eqb topic report) reportHelp (cond (eqb topic mend) mendH
 unfoldable pub versionText : List ℕ
 versionText = text "kw 0.2.0, image format 2\n"
 
+unfoldable pub outputFault : ℕ → List ℕ
+outputFault f =
+    cond (eqb f noOutput) (text "-o lacks the name of a file")
+    (cond (eqb f secondOutput) (text "only one -o")
+    (text "not expected here"))
+
+unfoldable pub fileFault : ℕ → List ℕ
+fileFault f =
+    cond (eqb f noFile) (text "a file is missing")
+    (cond (eqb f secondFile) (text "mend takes one file")
+    (outputFault f))
+
 unfoldable pub faultSentence : ℕ → List ℕ
 faultSentence f =
     cond (eqb f noCommand) (text "a command is missing")
     (cond (eqb f noSuchCommand) (text "no such command")
     (cond (eqb f noSuchOption) (text "no such option")
-    (cond (eqb f noFile) (text "a file is missing")
-    (cond (eqb f secondFile) (text "mend takes one file")
-    (cond (eqb f noOutput) (text "-o lacks the name of a file")
-    (cond (eqb f secondOutput) (text "only one -o")
-    (text "not expected here")))))))
+    (fileFault f)))
 
 -- the argument at fault is named where there is one
 unfoldable pub faultStart : List ℕ → List ℕ

@@ -6,94 +6,14 @@ ghost use lib.ListN.{length};
 ghost use lib.Seq.{sets};
 ghost use Rattle.io.specs.Counts.{Counts};
 ghost use Rattle.put.specs.Put.{Put};
-ghost use Rattle.model.specs.Programs.{decimal, lines};
-ghost use Rattle.messages.specs.Sentences.{sentence, tooLongSentence, naming, refusalText, subjectText};
+ghost use Rattle.model.specs.Programs.{lines};
+ghost use Rattle.sentences.specs.Sentences.{sentence};
+ghost use Rattle.messages.specs.Complaints.{tooLongSentence, naming, refusalText, subjectText};
 use error::Refusal;
 use exit_status::Verdict;
 use put::put_bytes;
-use put::put_field;
 
 const LONGEST_NAME: usize = 4096;
-
-fn put_around(out: &mut [u8], at: usize, before: &[u8], n: u64, after: &[u8]) -> usize
-    requires { ⌜ at + length (now before) + 20 + length (now after) ≤ length (now out) ⌝ }
-    ensures is { λ r. ⌜ Put (now (out .entry)) at (now (before .entry) ++ (decimal n ++ now (after .entry))) r (now (out .exit)) ⌝ }
-    ensures few { λ r. ⌜ r ≤ at + length (now (before .entry)) + 20 + length (now (after .entry)) ⌝ }
-{
-    let end = put_field(out, at, before, n);
-    put_bytes(out, end, after)
-}
-
-fn put_sentence(out: &mut [u8], at: usize, refusal: Refusal) -> usize
-    requires { ⌜ at + 120 ≤ length (now out) ⌝ }
-    ensures is { λ r. ⌜ Put (now (out .entry)) at (sentence refusal) r (now (out .exit)) ⌝ }
-    ensures few { λ r. ⌜ r ≤ at + 120 ⌝ }
-{
-    match refusal {
-        Refusal::Truncated => put_bytes(out, at, b"the image ends inside its header (Truncated)"),
-        Refusal::BadMagic => put_bytes(out, at, b"not a keleusma-wire image (BadMagic)"),
-        Refusal::ForeignEndian => put_bytes(
-            out,
-            at,
-            b"the byte order is not little-endian (ForeignEndian)",
-        ),
-        Refusal::UnsupportedVersion { found } => put_around(
-            out,
-            at,
-            b"version ",
-            found as u64,
-            b" of the format is not supported (UnsupportedVersion)",
-        ),
-        Refusal::BadPrologueChecksum => put_bytes(
-            out,
-            at,
-            b"the header's checksum is wrong (BadPrologueChecksum)",
-        ),
-        Refusal::TooManyRegions { found } => put_around(
-            out,
-            at,
-            b"",
-            found as u64,
-            b" regions are more than 1024 (TooManyRegions)",
-        ),
-        Refusal::RegionOutOfBounds { index } => put_around(
-            out,
-            at,
-            b"entry ",
-            index as u64,
-            b" ends past the image (RegionOutOfBounds)",
-        ),
-        Refusal::DuplicateRegion { kind } => put_around(
-            out,
-            at,
-            b"kind ",
-            kind as u64,
-            b" stands twice in the directory (DuplicateRegion)",
-        ),
-        Refusal::OverlappingRegions { index } => put_around(
-            out,
-            at,
-            b"entry ",
-            index as u64,
-            b" lies on the header or on an earlier region (OverlappingRegions)",
-        ),
-        Refusal::BadRecordStride => put_bytes(
-            out,
-            at,
-            b"the stride of a table does not fit (BadRecordStride)",
-        ),
-        Refusal::Overflow => put_bytes(out, at, b"a size has more than 64 bits (Overflow)"),
-        Refusal::TooLarge => put_bytes(out, at, b"the image would be too large (TooLarge)"),
-        Refusal::NoRoom => put_bytes(out, at, b"there is no room for the image (NoRoom)"),
-        Refusal::BadPlan { row } => put_around(
-            out,
-            at,
-            b"row ",
-            row as u64,
-            b" of the plan is wrong (BadPlan)",
-        ),
-    }
-}
 
 pub(crate) fn put_name(out: &mut [u8], name: &[u8]) -> usize
     requires { ⌜ length (now name) + 6 ≤ length (now out) ⌝ }
@@ -120,8 +40,10 @@ fn put_refused(out: &mut [u8], name: &[u8], refusal: Refusal) -> usize
     ensures is { λ r. ⌜ Put (now (out .entry)) 0 (lines ((naming (now (name .entry)) ++ sentence refusal) ∷ [])) r (now (out .exit)) ⌝ }
     ensures few { λ r. ⌜ r ≤ length (now (name .entry)) + 127 ⌝ }
 {
+    let mut words = [0u8; 128];
+    let n = sentences::in_words(refusal, &mut words);
     let at = put_name(out, name);
-    let end = put_sentence(out, at, refusal);
+    let end = put_bytes(out, at, &words[..n]);
     put_bytes(out, end, b"\n")
 }
 

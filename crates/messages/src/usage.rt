@@ -5,7 +5,7 @@ ghost use lib.ListN.{length};
 ghost use lib.Seq.{sets};
 ghost use Rattle.io.specs.Counts.{Counts};
 ghost use Rattle.put.specs.Put.{Put};
-ghost use Rattle.messages.specs.Usages.{reportHelp, mendHelp, allHelp, helpText, versionText, faultSentence, faultStart, faultText};
+ghost use Rattle.messages.specs.Usages.{reportHelp, mendHelp, allHelp, helpText, versionText, outputFault, fileFault, faultSentence, faultStart, faultText};
 use crate::complaint::put_name;
 use arguments::MEND;
 use arguments::NO_COMMAND;
@@ -91,6 +91,34 @@ fn put_fault_start(out: &mut [u8], word: &[u8]) -> usize
     }
 }
 
+fn put_output_fault(out: &mut [u8], at: usize, fault: u8) -> usize
+    requires { ⌜ at + 40 ≤ length (now out) ⌝ }
+    ensures is { λ r. ⌜ Put (now (out .entry)) at (outputFault fault) r (now (out .exit)) ⌝ }
+    ensures few { λ r. ⌜ r ≤ at + 40 ⌝ }
+{
+    if fault == NO_OUTPUT {
+        return put_bytes(out, at, b"-o lacks the name of a file");
+    }
+    if fault == SECOND_OUTPUT {
+        return put_bytes(out, at, b"only one -o");
+    }
+    put_bytes(out, at, b"not expected here")
+}
+
+fn put_file_fault(out: &mut [u8], at: usize, fault: u8) -> usize
+    requires { ⌜ at + 40 ≤ length (now out) ⌝ }
+    ensures is { λ r. ⌜ Put (now (out .entry)) at (fileFault fault) r (now (out .exit)) ⌝ }
+    ensures few { λ r. ⌜ r ≤ at + 40 ⌝ }
+{
+    if fault == NO_FILE {
+        return put_bytes(out, at, b"a file is missing");
+    }
+    if fault == SECOND_FILE {
+        return put_bytes(out, at, b"mend takes one file");
+    }
+    put_output_fault(out, at, fault)
+}
+
 fn put_fault_sentence(out: &mut [u8], at: usize, fault: u8) -> usize
     requires { ⌜ at + 40 ≤ length (now out) ⌝ }
     ensures is { λ r. ⌜ Put (now (out .entry)) at (faultSentence fault) r (now (out .exit)) ⌝ }
@@ -105,19 +133,7 @@ fn put_fault_sentence(out: &mut [u8], at: usize, fault: u8) -> usize
     if fault == NO_SUCH_OPTION {
         return put_bytes(out, at, b"no such option");
     }
-    if fault == NO_FILE {
-        return put_bytes(out, at, b"a file is missing");
-    }
-    if fault == SECOND_FILE {
-        return put_bytes(out, at, b"mend takes one file");
-    }
-    if fault == NO_OUTPUT {
-        return put_bytes(out, at, b"-o lacks the name of a file");
-    }
-    if fault == SECOND_OUTPUT {
-        return put_bytes(out, at, b"only one -o");
-    }
-    put_bytes(out, at, b"not expected here")
+    put_file_fault(out, at, fault)
 }
 
 // What is wrong with the arguments, of which word is the one at fault, or empty where one is missing.

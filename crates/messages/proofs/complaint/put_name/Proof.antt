@@ -3,7 +3,7 @@ use native.Mathlib.Omega.{arith}
 use borrow.Author.Needs.{needs}
 use Rattle.model.specs.Programs.{text}
 use Rattle.put.proofs.PutLaw.{put-two}
-use Rattle.messages.specs.Sentences.{naming}
+use Rattle.messages.specs.Complaints.{naming}
 use Rattle.messages.proofs.complaint.put_name.Statement.{statement}
 use Rattle.messages.proofs.complaint.put_name.Tie as tie
 

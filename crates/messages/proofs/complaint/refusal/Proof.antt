@@ -9,7 +9,7 @@ use lib.ListN.{length}
 use lib.Seq.{sets}
 use Rattle.io.proofs.Counting.{counts}
 use Rattle.text.proofs.TextLaw.{text-put}
-use Rattle.messages.specs.Sentences.{complaint, refusalText}
+use Rattle.messages.specs.Complaints.{complaint, refusalText}
 use Rattle.exit_status.specs.declared.Verdict.{Verdict}
 use Rattle.messages.proofs.complaint.refusal.Statement.{statement}
 use Rattle.messages.proofs.complaint.refusal.Tie as tie

@@ -8,7 +8,7 @@ use borrow.Author.Tests.{lt-ltb, le-ltb}
 use lib.ListN.{length}
 use Rattle.model.specs.Programs.{text}
 use Rattle.put.specs.Put.{Put}
-use Rattle.messages.specs.Sentences.{naming}
+use Rattle.messages.specs.Complaints.{naming}
 use Rattle.messages.specs.Usages.{faultStart}
 use Rattle.messages.proofs.usage.put_fault_start.Statement.{statement}
 use Rattle.messages.proofs.usage.put_fault_start.Tie as tie

@@ -1,0 +1,2 @@
+pub mod PathsLaw
+pub mod OneAnswer
