@@ -9,7 +9,7 @@ fn say(text: &[u8]) {
 
 // What is said of the image comes last: not before all of it is written.
 fn mend_image(name: &[u8], target: &[u8], in_place: bool, image: &mut [u8]) -> u8 {
-    let outcome = text::mend_within(image, MAX_IMAGE_BYTES);
+    let outcome = findings::mend_within(image, MAX_IMAGE_BYTES);
     if exit_status::is_written(outcome, in_place) {
         if !crate::save::save(target, image) {
             return FAILED;

@@ -3,7 +3,7 @@ use exit_status::FAILED;
 use layout::MAX_IMAGE_BYTES;
 
 fn report_image(name: &[u8], image: &[u8], several: bool) -> u8 {
-    let found = text::look(image, MAX_IMAGE_BYTES);
+    let found = findings::look(image, MAX_IMAGE_BYTES);
     let mut lines = [0u8; 8448];
     let k = text::file_report(name, several, found, &mut lines);
     let printed = crate::file::print(&lines[..k]);
