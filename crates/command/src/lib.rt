@@ -1,9 +1,8 @@
-// The command kw: what it reads and writes. What it says, and its exit status, are decided by text, words and arguments. (FORMAT 14)
+// The command kw: what it reads and writes. What it says, and its exit status, are decided by other crates. (FORMAT 14)
 mod asked;
-mod file;
 mod mend;
 mod report;
-mod save;
+mod said;
 
 use arguments::HELP;
 use arguments::Invocation;
@@ -40,18 +39,18 @@ fn refuse(invocation: Invocation) -> u8 {
     let n = asked::argument_at_fault(invocation.place, &mut word);
     let mut line = [0u8; 4352];
     let k = messages::fault(invocation.fault, &word[..n], &mut line);
-    io::write_all(libc::STDERR_FILENO, &line[..k]);
+    said::say(&line[..k]);
     FAILED
 }
 
 fn help(topic: u8) -> u8 {
     let mut text = [0u8; 4352];
     let k = messages::help(topic, &mut text);
-    file::print(&text[..k])
+    said::print(&text[..k])
 }
 
 fn version() -> u8 {
     let mut text = [0u8; 4352];
     let k = messages::version(&mut text);
-    file::print(&text[..k])
+    said::print(&text[..k])
 }

@@ -3,28 +3,24 @@ use arguments::Invocation;
 use exit_status::FAILED;
 use layout::MAX_IMAGE_BYTES;
 
-fn say(text: &[u8]) {
-    io::write_all(libc::STDERR_FILENO, text);
-}
-
 // What is said of the image comes last: not before all of it is written.
 fn mend_image(name: &[u8], target: &[u8], in_place: bool, image: &mut [u8]) -> u8 {
-    let outcome = text::mend_within(image, MAX_IMAGE_BYTES);
+    let outcome = findings::mend_within(image, MAX_IMAGE_BYTES);
     if exit_status::is_written(outcome, in_place) {
-        if !crate::save::save(target, image) {
+        if !files::save(target, image) {
             return FAILED;
         }
     }
     let mut lines = [0u8; 128];
     let k = text::mend_report(outcome, &mut lines);
-    say(&lines[..k]);
+    crate::said::say(&lines[..k]);
     let verdict = exit_status::mending_verdict(outcome);
-    crate::file::complain(name, verdict);
+    crate::said::complain(name, verdict);
     exit_status::status(verdict)
 }
 
 fn mend_file(name: &[u8], target: &[u8], in_place: bool, image: &mut [u8]) -> u8 {
-    let input = crate::file::read(name, image);
+    let input = files::read(name, image);
     if input.failed {
         return FAILED;
     }
@@ -36,7 +32,7 @@ fn mend_into(name: &[u8], output: usize, image: &mut [u8]) -> u8 {
     let mut target = io::buffer();
     let n = os::arg(output, &mut target);
     if os::errno() != 0 {
-        crate::file::fail(b"-o");
+        files::fail(b"-o");
         return FAILED;
     }
     mend_file(name, &target[..n], false, image)
@@ -54,7 +50,7 @@ pub(crate) fn mend(image: &mut [u8], invocation: Invocation) -> u8 {
     let mut name = io::buffer();
     let n = os::arg(invocation.file, &mut name);
     if os::errno() != 0 {
-        crate::file::fail(b"FILE");
+        files::fail(b"FILE");
         return FAILED;
     }
     mend_named(&name[..n], invocation.output, image)

@@ -3,17 +3,17 @@ use exit_status::FAILED;
 use layout::MAX_IMAGE_BYTES;
 
 fn report_image(name: &[u8], image: &[u8], several: bool) -> u8 {
-    let found = text::look(image, MAX_IMAGE_BYTES);
+    let found = findings::look(image, MAX_IMAGE_BYTES);
     let mut lines = [0u8; 8448];
     let k = text::file_report(name, several, found, &mut lines);
-    let printed = crate::file::print(&lines[..k]);
+    let printed = crate::said::print(&lines[..k]);
     let verdict = exit_status::report_verdict(found);
-    crate::file::complain(name, verdict);
+    crate::said::complain(name, verdict);
     exit_status::higher(printed, exit_status::status(verdict))
 }
 
 fn report_file(name: &[u8], image: &mut [u8], several: bool) -> u8 {
-    let input = crate::file::read(name, image);
+    let input = files::read(name, image);
     if input.failed {
         return FAILED;
     }
@@ -25,7 +25,7 @@ fn report_argument(i: usize, image: &mut [u8], several: bool) -> u8 {
     let mut name = io::buffer();
     let n = os::arg(i, &mut name);
     if os::errno() != 0 {
-        crate::file::fail(b"FILE");
+        files::fail(b"FILE");
         return FAILED;
     }
     report_file(&name[..n], image, several)

@@ -5,11 +5,11 @@ use Prim.Native.Nat.{ℕ}
 use lib.Dec.{ltb}
 use Rattle.model.specs.Scan.{Report}
 use Rattle.scan.specs.Answers.{asScan}
-use Rattle.text.specs.Told.{uncorrectableIn}
-use Rattle.text.specs.declared.found.Found.{Found}
-use Rattle.text.specs.declared.found.Found.the-variants as found
-use Rattle.text.specs.declared.found.Outcome.{Outcome}
-use Rattle.text.specs.declared.found.Outcome.the-variants as outcome
+use Rattle.findings.specs.Answers.{uncorrectableIn}
+use Rattle.findings.specs.declared.Found.{Found}
+use Rattle.findings.specs.declared.Found.the-variants as found
+use Rattle.findings.specs.declared.Outcome.{Outcome}
+use Rattle.findings.specs.declared.Outcome.the-variants as outcome
 use Rattle.exit_status.specs.declared.Verdict.{Verdict}
 use Rattle.exit_status.specs.declared.Verdict.the-variants.{Sound, Damaged, TooLong, Refused}
 

@@ -5,9 +5,9 @@ ghost use Prim.Native.Nat.{max};
 ghost use Rattle.scan.specs.Answers.{asScan};
 ghost use Rattle.exit_status.specs.Verdicts.{damagedIn, verdictIf, reportVerdict, mendingVerdict, writesFile, statusOf};
 use error::Refusal;
+use findings::Found;
+use findings::Outcome;
 use scan::ScanResult;
-use text::Found;
-use text::Outcome;
 
 pub enum Verdict {
     Sound,
@@ -64,7 +64,7 @@ pub fn mending_verdict(outcome: Outcome) -> Verdict
         Outcome::Refused(refusal) => Verdict::Refused(refusal),
         Outcome::Mended(mending) => {
             let report = mending.report;
-            let uncorrectable = text::uncorrectable_in(report);
+            let uncorrectable = findings::uncorrectable_in(report);
             verdict_if(uncorrectable > 0)
         }
     }

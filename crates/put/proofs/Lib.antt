@@ -1,3 +1,4 @@
 pub mod PutLaw
 pub mod DecimalLaw
+pub mod LinesLaw
 pub mod OneAnswer

@@ -1,2 +1,1 @@
-pub mod TextLaw
 pub mod OneAnswer

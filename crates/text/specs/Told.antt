@@ -1,13 +1,13 @@
--- What the command prints of an image. (FORMAT 14)
+-- What the command prints of an image, and what the program scrub leaves of one. (FORMAT 11, 14)
 use mathlib.Core.Bool.{Bool, cond}
 use mathlib.Core.List.{List, [], _∷_, _++_, map}
 use mathlib.Core.Option.{Option, none, some}
 use Prim.Native.Nat.{ℕ}
 use lib.Dec.{ltb}
 use lib.ListN.{length}
-use Rattle.model.specs.Scan.{Report}
 use Rattle.model.specs.Mend.{MendAnswer, refusedMend, mended}
-use Rattle.model.specs.Programs.{Found, tooLong, refusedImage, image, reportLines, text, field, tooLongLine, refusedLine, regionsLine, storedLine, lines}
+use Rattle.model.specs.Programs.{Found, tooLong, refusedImage, image, mendWithin, reportLines, text, field, tooLongLine, refusedLine, regionsLine, storedLine, lines}
+use Rattle.findings.specs.Answers.{leftWithin, uncorrectableIn}
 
 -- what stands before a line on one of several files
 unfoldable pub prefix : List ℕ → Bool → List ℕ
@@ -22,10 +22,6 @@ fileReport name several f = cond (ltb 4096 (length name)) [] (fileLines name sev
 
 -- ---- mend
 
-abbrev pub uncorrectableIn : Option Report → ℕ
-uncorrectableIn none = 0
-uncorrectableIn (some r) = r .uncorrectable
-
 unfoldable pub uncorrectableLine : ℕ → List ℕ
 uncorrectableLine n = field "uncorrectable " n
 
@@ -39,6 +35,11 @@ mendLines (some (mended y r stored whole)) = storedLine stored ∷ uncorrectable
 
 unfoldable pub mendText : Option MendAnswer → List ℕ
 mendText m = lines (mendLines m)
+
+-- ---- scrub
+
+abbrev pub leftIn : List ℕ → List ℕ
+leftIn x = leftWithin (mendWithin 65536 x) x
 
 -- ---- steps of code, for private contracts
 

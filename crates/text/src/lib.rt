@@ -1,5 +1,4 @@
-// What the programs and the command find in an image, and what they print of it, made in a buffer of the caller's. (FORMAT 11, 14)
-mod found;
+// What the programs and the command print of an image, made in a buffer of the caller's. (FORMAT 11, 14)
 mod line;
 mod told;
 
@@ -8,18 +7,13 @@ ghost use lib.ListN.{length, take};
 ghost use lib.Seq.{sets};
 ghost use Rattle.io.specs.Counts.{Counts};
 ghost use Rattle.model.specs.Programs.{reportText, scrubImage, scrubText};
-ghost use Rattle.text.specs.Answers.{leftIn};
-pub use found::Findings;
-pub use found::Found;
-pub use found::Outcome;
-pub use found::look;
-pub use found::mend_within;
+ghost use Rattle.text.specs.Told.{leftIn};
+use findings::Outcome;
 use layout::MAX_INPUT_BYTES;
 pub use told::file_report;
 pub use told::mend_report;
 use told::put_outcome;
 use told::put_report;
-pub use told::uncorrectable_in;
 
 // The report on an image, from the start of out on; the number of its bytes.
 pub fn report(image: &[u8], out: &mut [u8; 128]) -> usize
@@ -27,7 +21,7 @@ pub fn report(image: &[u8], out: &mut [u8; 128]) -> usize
     ensures leaves { λ _. ⌜ now (out .exit) ≡ sets (now (out .entry)) 0 (reportText (now (image .entry))) ⌝ }
     ensures fits { λ r. ⌜ Counts r (now (out .exit)) ⌝ }
 {
-    let found = look(image, MAX_INPUT_BYTES);
+    let found = findings::look(image, MAX_INPUT_BYTES);
     put_report(out, b"", false, found)
 }
 
@@ -45,7 +39,7 @@ pub fn scrub(image: &mut [u8], out: &mut [u8; 128]) -> Printed
     ensures writes { λ r. ⌜ (r .image ≡ length (scrubImage (now (image .entry)))) × (take (r .image) (now (image .exit)) ≡ scrubImage (now (image .entry))) ⌝ }
     ensures fits { λ r. ⌜ Counts (r .line) (now (out .exit)) × Counts (r .image) (now (image .exit)) ⌝ }
 {
-    let outcome = mend_within(image, MAX_INPUT_BYTES);
+    let outcome = findings::mend_within(image, MAX_INPUT_BYTES);
     let line = put_outcome(out, outcome);
     match outcome {
         Outcome::TooLong => Printed { image: 0, line },

@@ -8,10 +8,8 @@ ghost use Rattle.io.specs.Counts.{Counts};
 ghost use Rattle.put.specs.Put.{Put};
 ghost use Rattle.model.specs.Programs.{eccLine, lines, lineOf};
 ghost use Rattle.scan.specs.Answers.{asScan};
-ghost use Rattle.text.specs.Answers.{asFound, asOutcome};
-ghost use Rattle.text.specs.Told.{prefix, firstLine, fileLines, fileReport, uncorrectableIn, uncorrectableLines, mendText};
-use crate::found::Found;
-use crate::found::Outcome;
+ghost use Rattle.findings.specs.Answers.{asFound, asOutcome};
+ghost use Rattle.text.specs.Told.{prefix, firstLine, fileLines, fileReport, uncorrectableLines, mendText};
 use crate::line::put_ecc;
 use crate::line::put_line_feed;
 use crate::line::put_refused;
@@ -19,6 +17,8 @@ use crate::line::put_regions;
 use crate::line::put_stored;
 use crate::line::put_too_long;
 use crate::line::put_uncorrectable;
+use findings::Found;
+use findings::Outcome;
 use put::put_bytes;
 use scan::ScanResult;
 
@@ -113,16 +113,6 @@ fn put_said(out: &mut [u8], outcome: Outcome) -> usize
     }
 }
 
-// How many words of a report are uncorrectable; none where there is no report.
-pub fn uncorrectable_in(report: ScanResult) -> usize
-    ensures { λ r. ⌜ r ≡ uncorrectableIn (asScan report) ⌝ }
-{
-    match report {
-        ScanResult::Nothing => 0,
-        ScanResult::Report(counts) => counts.uncorrectable,
-    }
-}
-
 fn put_uncorrectable_line(out: &mut [u8], at: usize, uncorrectable: usize) -> usize
     requires { ⌜ at + 35 ≤ length (now out) ⌝ }
     ensures is { λ r. ⌜ Put (now (out .entry)) at (lines (uncorrectableLines uncorrectable)) r (now (out .exit)) ⌝ }
@@ -148,7 +138,7 @@ pub fn mend_report(outcome: Outcome, out: &mut [u8; 128]) -> usize
         Outcome::Refused(_) => second,
         Outcome::Mended(mending) => {
             let report = mending.report;
-            put_uncorrectable_line(out, second, uncorrectable_in(report))
+            put_uncorrectable_line(out, second, findings::uncorrectable_in(report))
         }
     }
 }

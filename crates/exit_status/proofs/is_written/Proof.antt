@@ -1,7 +1,7 @@
 -- `exit_status::is_written` meets its contract. Assumes nothing.
 use mathlib.Core.Path.{sym, ap, _∙_}
 use borrow.Author.Needs.{needs}
-use Rattle.text.specs.declared.found.Outcome.{Outcome}
+use Rattle.findings.specs.declared.Outcome.{Outcome}
 use Rattle.exit_status.specs.Verdicts.{writesFile}
 use Rattle.exit_status.proofs.is_written.Statement.{statement}
 use Rattle.exit_status.proofs.is_written.Tie as tie

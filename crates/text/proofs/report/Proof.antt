@@ -7,7 +7,7 @@ use borrow.Author.Needs.{needs}
 use Rattle.io.proofs.Counting.{counts}
 use Rattle.model.specs.Programs.{Found, tooLong, refusedImage, image, lines, reportLines, reportText}
 use Rattle.text.specs.Told.{prefix, fileLines}
-use Rattle.text.proofs.TextLaw.{text-put}
+use Rattle.put.proofs.LinesLaw.{text-put}
 use Rattle.text.proofs.report.Statement.{statement}
 use Rattle.text.proofs.report.Tie as tie
 

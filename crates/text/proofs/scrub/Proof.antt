@@ -8,10 +8,10 @@ use lib.ListN.{length}
 use lib.Seq.{take-all}
 use Rattle.io.proofs.Counting.{counts}
 use Rattle.model.specs.Programs.{lines, imageOut, lineOf, mendWithin, scrubImage, scrubLine, scrubText}
-use Rattle.text.specs.Answers.{asOutcome}
-use Rattle.text.specs.declared.found.Outcome.{Outcome}
-use Rattle.text.specs.declared.found.Outcome.the-variants.{TooLong, Refused, Mended}
-use Rattle.text.proofs.TextLaw.{text-put}
+use Rattle.findings.specs.Answers.{asOutcome}
+use Rattle.findings.specs.declared.Outcome.{Outcome}
+use Rattle.findings.specs.declared.Outcome.the-variants.{TooLong, Refused, Mended}
+use Rattle.put.proofs.LinesLaw.{text-put}
 use Rattle.text.proofs.scrub.Statement.{statement}
 use Rattle.text.proofs.scrub.Tie as tie
 

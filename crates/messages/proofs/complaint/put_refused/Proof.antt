@@ -10,7 +10,7 @@ use Rattle.model.specs.Programs.{text}
 use Rattle.put.specs.Put.{Put}
 use Rattle.put.proofs.PutLaw.{put-two, put-part}
 use Rattle.sentences.specs.Sentences.{sentence}
-use Rattle.text.proofs.TextLaw.{put-last-line}
+use Rattle.put.proofs.LinesLaw.{put-last-line}
 use Rattle.messages.proofs.complaint.put_refused.Statement.{statement}
 use Rattle.messages.proofs.complaint.put_refused.Tie as tie
 

@@ -3,7 +3,7 @@ use native.Mathlib.Omega.{arith}
 use borrow.Author.Needs.{needs}
 use Rattle.model.specs.Programs.{text}
 use Rattle.put.proofs.PutLaw.{put-two}
-use Rattle.text.proofs.TextLaw.{put-last-line}
+use Rattle.put.proofs.LinesLaw.{put-last-line}
 use Rattle.messages.specs.Complaints.{tooLongSentence}
 use Rattle.messages.proofs.complaint.put_too_long.Statement.{statement}
 use Rattle.messages.proofs.complaint.put_too_long.Tie as tie

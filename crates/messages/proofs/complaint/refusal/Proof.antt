@@ -8,7 +8,7 @@ use borrow.Author.Tests.{lt-ltb, le-ltb}
 use lib.ListN.{length}
 use lib.Seq.{sets}
 use Rattle.io.proofs.Counting.{counts}
-use Rattle.text.proofs.TextLaw.{text-put}
+use Rattle.put.proofs.LinesLaw.{text-put}
 use Rattle.messages.specs.Complaints.{complaint, refusalText}
 use Rattle.exit_status.specs.declared.Verdict.{Verdict}
 use Rattle.messages.proofs.complaint.refusal.Statement.{statement}

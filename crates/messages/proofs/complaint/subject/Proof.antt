@@ -9,7 +9,7 @@ use lib.ListN.{length}
 use Rattle.io.proofs.Counting.{counts}
 use Rattle.model.specs.Programs.{text}
 use Rattle.put.proofs.PutLaw.{put-two}
-use Rattle.text.proofs.TextLaw.{text-put}
+use Rattle.put.proofs.LinesLaw.{text-put}
 use Rattle.messages.specs.Complaints.{subjectText}
 use Rattle.messages.proofs.complaint.subject.Statement.{statement}
 use Rattle.messages.proofs.complaint.subject.Tie as tie

@@ -10,7 +10,7 @@ use lib.Seq.{sets}
 use Rattle.io.proofs.Counting.{counts}
 use Rattle.model.specs.Programs.{text}
 use Rattle.put.proofs.PutLaw.{put-two}
-use Rattle.text.proofs.TextLaw.{text-put}
+use Rattle.put.proofs.LinesLaw.{text-put}
 use Rattle.messages.specs.Usages.{faultStart, faultSentence, faultText}
 use Rattle.messages.proofs.usage.fault.Statement.{statement}
 use Rattle.messages.proofs.usage.fault.Tie as tie

@@ -3,7 +3,7 @@ use native.Mathlib.Omega.{arith}
 use borrow.Author.Needs.{needs}
 use borrow.Author.Tests.{eq-eqb, ne-eqb}
 use Rattle.io.proofs.Counting.{counts}
-use Rattle.text.proofs.TextLaw.{text-put}
+use Rattle.put.proofs.LinesLaw.{text-put}
 use Rattle.messages.specs.Usages.{helpText}
 use Rattle.messages.proofs.usage.help.Statement.{statement}
 use Rattle.messages.proofs.usage.help.Tie as tie

@@ -4,7 +4,7 @@ use native.Mathlib.Omega.{arith}
 use borrow.Author.Needs.{needs}
 use Rattle.io.proofs.Counting.{counts}
 use Rattle.model.specs.Programs.{text}
-use Rattle.text.proofs.TextLaw.{text-put}
+use Rattle.put.proofs.LinesLaw.{text-put}
 use Rattle.messages.specs.Usages.{versionText}
 use Rattle.messages.proofs.usage.version.Statement.{statement}
 use Rattle.messages.proofs.usage.version.Tie as tie

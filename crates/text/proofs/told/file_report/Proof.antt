@@ -11,7 +11,7 @@ use lib.Seq.{sets}
 use Rattle.io.proofs.Counting.{counts}
 use Rattle.model.specs.Programs.{Found}
 use Rattle.text.specs.Told.{fileLines, fileReport}
-use Rattle.text.proofs.TextLaw.{text-put}
+use Rattle.put.proofs.LinesLaw.{text-put}
 use Rattle.text.proofs.told.file_report.Statement.{statement}
 use Rattle.text.proofs.told.file_report.Tie as tie
 

@@ -7,10 +7,10 @@ use borrow.Author.Needs.{needs}
 use Rattle.io.proofs.Counting.{counts}
 use Rattle.model.specs.Programs.{lines, lineOf}
 use Rattle.put.specs.Put.{Put}
-use Rattle.text.specs.Answers.{asOutcome}
+use Rattle.findings.specs.Answers.{asOutcome}
 use Rattle.text.specs.Told.{uncorrectableLines, mendText}
-use Rattle.text.specs.declared.found.Outcome.{Outcome}
-use Rattle.text.proofs.TextLaw.{put-more, text-put}
+use Rattle.findings.specs.declared.Outcome.{Outcome}
+use Rattle.put.proofs.LinesLaw.{put-more, text-put}
 use Rattle.text.proofs.told.mend_report.Statement.{statement}
 use Rattle.text.proofs.told.mend_report.Tie as tie
 

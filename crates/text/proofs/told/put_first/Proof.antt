@@ -3,9 +3,9 @@ use mathlib.Core.Path.{sym, subst}
 use native.Mathlib.Omega.{arith}
 use borrow.Author.Needs.{needs}
 use Rattle.put.specs.Put.{Put}
-use Rattle.text.specs.Answers.{asFound}
+use Rattle.findings.specs.Answers.{asFound}
 use Rattle.text.specs.Told.{firstLine}
-use Rattle.text.specs.declared.found.Found.{Found}
+use Rattle.findings.specs.declared.Found.{Found}
 use Rattle.text.proofs.told.put_first.Statement.{statement}
 use Rattle.text.proofs.told.put_first.Tie as tie
 

@@ -1,7 +1,7 @@
 -- `text::told::put_outcome` meets its contract: a line and its line feed. Assumes nothing.
 use native.Mathlib.Omega.{arith}
 use borrow.Author.Needs.{needs}
-use Rattle.text.proofs.TextLaw.{put-last-line}
+use Rattle.put.proofs.LinesLaw.{put-last-line}
 use Rattle.text.proofs.told.put_outcome.Statement.{statement}
 use Rattle.text.proofs.told.put_outcome.Tie as tie
 

@@ -7,7 +7,7 @@ use Rattle.model.specs.Programs.{text}
 use Rattle.put.specs.Put.{Put}
 use Rattle.put.proofs.PutLaw.{put-two}
 use Rattle.text.specs.Told.{prefix}
-use Rattle.text.proofs.TextLaw.{put-none}
+use Rattle.put.proofs.LinesLaw.{put-none}
 use Rattle.text.proofs.told.put_prefix.Statement.{statement}
 use Rattle.text.proofs.told.put_prefix.Tie as tie
 

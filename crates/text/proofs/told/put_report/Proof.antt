@@ -6,10 +6,10 @@ use borrow.Author.Needs.{needs}
 use Rattle.model.specs.Programs.{lines}
 use Rattle.put.specs.Put.{Put}
 use Rattle.put.proofs.PutLaw.{put-two}
-use Rattle.text.specs.Answers.{asFound}
+use Rattle.findings.specs.Answers.{asFound}
 use Rattle.text.specs.Told.{prefix, firstLine, fileLines}
-use Rattle.text.specs.declared.found.Found.{Found}
-use Rattle.text.proofs.TextLaw.{put-last-line, put-more}
+use Rattle.findings.specs.declared.Found.{Found}
+use Rattle.put.proofs.LinesLaw.{put-last-line, put-more}
 use Rattle.text.proofs.told.put_report.Statement.{statement}
 use Rattle.text.proofs.told.put_report.Tie as tie
 

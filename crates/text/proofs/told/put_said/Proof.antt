@@ -5,8 +5,8 @@ use native.Mathlib.Omega.{arith}
 use borrow.Author.Needs.{needs}
 use Rattle.model.specs.Programs.{lineOf}
 use Rattle.put.specs.Put.{Put}
-use Rattle.text.specs.Answers.{asOutcome}
-use Rattle.text.specs.declared.found.Outcome.{Outcome}
+use Rattle.findings.specs.Answers.{asOutcome}
+use Rattle.findings.specs.declared.Outcome.{Outcome}
 use Rattle.text.proofs.told.put_said.Statement.{statement}
 use Rattle.text.proofs.told.put_said.Tie as tie
 

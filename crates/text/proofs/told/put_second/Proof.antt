@@ -2,7 +2,7 @@
 use native.Mathlib.Omega.{arith}
 use borrow.Author.Needs.{needs}
 use Rattle.put.proofs.PutLaw.{put-two}
-use Rattle.text.proofs.TextLaw.{put-last-line}
+use Rattle.put.proofs.LinesLaw.{put-last-line}
 use Rattle.text.proofs.told.put_second.Statement.{statement}
 use Rattle.text.proofs.told.put_second.Tie as tie
 

@@ -8,7 +8,7 @@ use borrow.Author.Tests.{lt-ltb, le-ltb}
 use Rattle.model.specs.Programs.{lines}
 use Rattle.put.specs.Put.{Put}
 use Rattle.text.specs.Told.{uncorrectableLine}
-use Rattle.text.proofs.TextLaw.{put-last-line, put-none}
+use Rattle.put.proofs.LinesLaw.{put-last-line, put-none}
 use Rattle.text.proofs.told.put_uncorrectable_line.Statement.{statement}
 use Rattle.text.proofs.told.put_uncorrectable_line.Tie as tie
 

@@ -1,4 +1,4 @@
--- `text::found::look` meets its contract. Assumes nothing.
+-- `findings::look` meets its contract. Assumes nothing.
 use mathlib.Core.Path.{_≡_, sym, ap, ap₂, _∙_}
 use mathlib.Core.Bool.{Bool}
 use mathlib.Core.Option.{Option}
@@ -13,8 +13,8 @@ use Rattle.model.proofs.ProgramsLaw.{look-long, look-short}
 use Rattle.view.specs.Answers.{asParsed}
 use Rattle.view.proofs.AnswersLaw.{parsed-fine, parsed-count}
 use Rattle.scan.proofs.VisitLaw.{scan-is}
-use Rattle.text.proofs.found.look.Statement.{statement}
-use Rattle.text.proofs.found.look.Tie as tie
+use Rattle.findings.proofs.look.Statement.{statement}
+use Rattle.findings.proofs.look.Tie as tie
 
 returns : tie.Need-returns
 returns c = let a = c .before .before .args in look-long (a .most) (a .image .now) (c .if1 .taken)

@@ -6,15 +6,10 @@ use native.Mathlib.Omega.{arith}
 use lib.ListN.{length}
 use lib.Seq.{sets}
 use Rattle.model.specs.Programs.{text, lineFeed, lines}
 use Rattle.put.specs.Put.{Put}
 use Rattle.put.proofs.PutLaw.{put-two}
 
--- a line, its line feed, and the lines behind it
-pub put-line : (o : List ℕ) (p : ℕ) (l : List ℕ) (ls : List (List ℕ)) {o₁ o₂ o₃ : List ℕ} {p₁ p₂ p₃ : ℕ}
-    → Put o p l p₁ o₁ → Put o₁ p₁ lineFeed p₂ o₂ → Put o₂ p₂ (lines ls) p₃ o₃ → Put o p (lines (l ∷ ls)) p₃ o₃
-unfolding lines
-put-line o p l ls g h k = put-two o p l (lineFeed ++ lines ls) g (put-two _ _ lineFeed (lines ls) h k)
-
+-- a line and its line feed
 pub put-last-line : (o : List ℕ) (p : ℕ) (l : List ℕ) {o₁ o₂ : List ℕ} {p₁ p₂ : ℕ} → Put o p l p₁ o₁ → Put o₁ p₁ lineFeed p₂ o₂ → Put o p (lines (l ∷ [])) p₂ o₂
 unfolding lines text
 put-last-line o p l g h = put-two o p l lineFeed g h

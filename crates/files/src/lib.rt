@@ -1,30 +1,31 @@
-// Files by name, standard input and standard output.
+// Files that the command reads, replaces and prints to. No contract can say what a call of the system reads or writes; proved is that the functions end and are safe, and that
+// a count lies within its buffer. (FORMAT 14)
+mod links;
+mod saving;
+
 ghost use Rattle.io.specs.Counts.{Counts};
-use exit_status::FAILED;
-use exit_status::Verdict;
+pub use saving::save;
 use stdin::Input;
 
 // Says why the system failed at a file. It is called right after the call that failed.
-pub(crate) fn fail(name: &[u8]) {
+pub fn fail(name: &[u8]) {
     let mut text = [0u8; 4352];
     let k = messages::subject(name, &mut text);
     os::fail(&text[..k]);
 }
 
-// Says in words why an image is refused, if it is.
-pub(crate) fn complain(name: &[u8], verdict: Verdict) {
-    let mut line = [0u8; 4352];
-    let k = messages::refusal(name, verdict, &mut line);
-    io::write_all(libc::STDERR_FILENO, &line[..k]);
+// Writes to an open file, and says why where it can't.
+pub(crate) fn write(file: i32, name: &[u8], bytes: &[u8]) -> bool {
+    let written = io::write_all(file, bytes);
+    if !written {
+        fail(name);
+    }
+    written
 }
 
-// Writes to standard output, and answers a status.
-pub(crate) fn print(text: &[u8]) -> u8 {
-    if io::write_all(libc::STDOUT_FILENO, text) {
-        return 0;
-    }
-    fail(b"standard output");
-    FAILED
+// Writes to standard output, in the same way.
+pub fn print(text: &[u8]) -> bool {
+    write(libc::STDOUT_FILENO, b"standard output", text)
 }
 
 fn read_open(file: i32, name: &[u8], image: &mut [u8]) -> Input
@@ -54,7 +55,7 @@ fn read_named(name: &[u8], image: &mut [u8]) -> Input
 }
 
 // Reads a file, or standard input, and says why where it can't.
-pub(crate) fn read(name: &[u8], image: &mut [u8]) -> Input
+pub fn read(name: &[u8], image: &mut [u8]) -> Input
     ensures { λ r. ⌜ Counts (r .length) (now (image .exit)) ⌝ }
 {
     if arguments::is_standard(name) {

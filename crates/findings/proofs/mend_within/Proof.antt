@@ -1,4 +1,4 @@
--- `text::found::mend_within` meets its contract. Assumes nothing.
+-- `findings::mend_within` meets its contract. Assumes nothing.
 use mathlib.Core.Path.{sym, ap, _∙_}
 use mathlib.Core.Option.{Option, some}
 use borrow.Author.Needs.{needs}
@@ -6,9 +6,9 @@ use Rattle.model.specs.Mend.{MendAnswer}
 use Rattle.model.proofs.ProgramsLaw.{mend-long, mend-short}
 use Rattle.mending.specs.Answers.{asMended}
 use Rattle.mending.specs.declared.MendResult.{MendResult}
-use Rattle.text.specs.Answers.{leftWithin}
-use Rattle.text.proofs.found.mend_within.Statement.{statement}
-use Rattle.text.proofs.found.mend_within.Tie as tie
+use Rattle.findings.specs.Answers.{leftWithin}
+use Rattle.findings.proofs.mend_within.Statement.{statement}
+use Rattle.findings.proofs.mend_within.Tie as tie
 
 returns : tie.Need-returns
 returns c =

@@ -1,16 +1,17 @@
--- The model's reading of what is found in an image and made of it, and what is left of the image. (FORMAT 11)
+-- The model's reading of what is found in an image and made of it, and what is left of the image. (FORMAT 11, 14)
 use mathlib.Core.List.{List}
 use mathlib.Core.Option.{Option, none, some}
 use Prim.Native.Nat.{ℕ}
+use Rattle.model.specs.Scan.{Report}
 use Rattle.model.specs.Mend.{MendAnswer, refusedMend}
 use Rattle.model.specs.Programs as model
 use Rattle.error.specs.Refused.{numberOf, detailOf}
 use Rattle.scan.specs.Answers.{asScan}
 use Rattle.mending.specs.Answers.{asMending, leftBy}
-use Rattle.text.specs.declared.found.Found.{Found}
-use Rattle.text.specs.declared.found.Found.the-variants as found
-use Rattle.text.specs.declared.found.Outcome.{Outcome}
-use Rattle.text.specs.declared.found.Outcome.the-variants as outcome
+use Rattle.findings.specs.declared.Found.{Found}
+use Rattle.findings.specs.declared.Found.the-variants as found
+use Rattle.findings.specs.declared.Outcome.{Outcome}
+use Rattle.findings.specs.declared.Outcome.the-variants as outcome
 
 abbrev pub asFound : Found → model.Found
 asFound found.TooLong = model.tooLong
@@ -27,6 +28,6 @@ abbrev pub leftWithin : Option MendAnswer → List ℕ → List ℕ
 leftWithin none x = x
 leftWithin (some m) x = leftBy m x
 
--- what scrub leaves
-abbrev pub leftIn : List ℕ → List ℕ
-leftIn x = leftWithin (model.mendWithin 65536 x) x
+abbrev pub uncorrectableIn : Option Report → ℕ
+uncorrectableIn none = 0
+uncorrectableIn (some r) = r .uncorrectable

@@ -1,7 +1,8 @@
 // What is found in an image that may have so many bytes, and what mend makes of one. (FORMAT 11)
 ghost use mathlib.Core.Path.{_≡_};
 ghost use Rattle.model.specs.Programs as model;
-ghost use Rattle.text.specs.Answers.{asFound, asOutcome, leftWithin};
+ghost use Rattle.scan.specs.Answers.{asScan};
+ghost use Rattle.findings.specs.Answers.{asFound, asOutcome, leftWithin, uncorrectableIn};
 use error::Refusal;
 use mending::MendResult;
 use mending::Mending;
@@ -56,5 +57,15 @@ pub fn mend_within(image: &mut [u8], most: usize) -> Outcome
     match mending::mend(image) {
         MendResult::Refused(refusal) => Outcome::Refused(refusal),
         MendResult::Mended(mending) => Outcome::Mended(mending),
+    }
+}
+
+// How many words of a report are uncorrectable; none where there is no report.
+pub fn uncorrectable_in(report: ScanResult) -> usize
+    ensures { λ r. ⌜ r ≡ uncorrectableIn (asScan report) ⌝ }
+{
+    match report {
+        ScanResult::Nothing => 0,
+        ScanResult::Report(counts) => counts.uncorrectable,
     }
 }
