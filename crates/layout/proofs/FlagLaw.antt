@@ -1,6 +1,6 @@
 -- A flag test, as code has it, asks for one bit. Assumes nothing.
 use mathlib.Core.Path.{_≡_, refl, sym, ap, ap₂, _∙_}
-use mathlib.Core.Bool.{Bool, true, false, not}
+use mathlib.Core.Bool.{not}
 use Prim.Native.Nat.{ℕ, zero, suc, _+_, _*_, _/_, _%_, _^_, min}
 use native.Mathlib.Omega.{arith}
 use native.Mathlib.Nat.{min-zero}

@@ -1,7 +1,5 @@
 -- No two answers fit one promise. (`asModel` tells every two sizes apart.) Assumes nothing.
 use mathlib.Core.Path.{_≡_, refl}
-use mathlib.Core.Option.{Option, none, some}
-use Prim.Native.Nat.{ℕ}
 use Rattle.model.proofs.OneAnswer.{OneAnswer, agree}
 use Rattle.layout.specs.declared.Size.{Size}
 use Rattle.layout.specs.declared.Size.the-variants.{Of, Nothing}

@@ -1,6 +1,6 @@
 -- Where an image's regions lie: what a misplaced entry is said to lie on it lies on. Assumes nothing.
 use mathlib.Core.Path.{_≡_, refl, sym, ap, _∙_, subst}
-use mathlib.Core.Bool.{Bool, true, false, _||_, cond, or-true, or-false}
+use mathlib.Core.Bool.{Bool, true, false, cond}
 use mathlib.Core.List.{List, [], _∷_, _++_, append-assoc}
 use mathlib.Core.Option.{Option, none, some}
 use Prim.Native.Nat.{ℕ, zero, suc, _+_, _≤_, _<_}
@@ -10,7 +10,7 @@ use native.Mathlib.Omega.{arith}
 use borrow.Author.Tests.{ltb-true, lt-ltb}
 use lib.Dec.{ltb}
 use lib.ListN.{length, length-append}
-use Rattle.model.specs.Refusals.{Verdict, fine, refuse, _then_, refuseIf, overlappingRegions}
+use Rattle.model.specs.Refusals.{Verdict, fine, refuse, overlappingRegions}
 use Rattle.model.specs.Layout.{Entry, count, directory, headerLength, start}
 use Rattle.model.specs.Views.{nth}
 use Rattle.model.specs.Parse.{Header, parsedAs, headerOf, parse, parseVerdict}

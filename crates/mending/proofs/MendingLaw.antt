@@ -1,8 +1,8 @@
 -- The word half, region by region, and mend's answer. Assumes nothing.
 use mathlib.Core.Path.{_≡_, refl, sym, ap, ap₂, _∙_, subst}
-use mathlib.Core.Bool.{Bool, true, false, _||_, cond}
+use mathlib.Core.Bool.{Bool, true, _||_, cond}
 use mathlib.Core.List.{List, [], _∷_, _++_}
-use Prim.Native.Nat.{ℕ, suc, _+_, _-_, _*_, _≤_, _<_}
+use Prim.Native.Nat.{ℕ, suc, _+_, _*_, _≤_}
 use native.Mathlib.Omega.{arith}
 use borrow.Author.Tests.{le-ltb}
 use lib.ListN.{length, take, drop, take-append-drop}
@@ -10,16 +10,14 @@ use lib.Seq.{take-all}
 use Rattle.model.specs.Bytes.{Bytes}
 use Rattle.model.specs.Refusals.{fine, refuse}
 use Rattle.model.specs.Layout.{Entry, count, headerLength, directory, directoryOf}
-use Rattle.model.specs.Parse.{parseVerdict}
 use Rattle.model.specs.Views.{nth, entriesFor, regionAt}
-use Rattle.model.specs.Scan.{Visit, visitsOver, visits, Codeword, Among, codewordsFrom, codewordsIn, codewords, total, classesAt, report, scanOf, scan, scanIn}
+use Rattle.model.specs.Scan.{Visit, visitsOver, visits, Codeword, Among, codewordsIn, codewords, total, classesAt, report, scan}
 use Rattle.model.specs.Scrub.{visitAt}
 use Rattle.model.specs.Mend as model
-use Rattle.model.specs.Mend.{mendVerdict, fixAt, fixAll, mendBytes, changed, mend}
+use Rattle.model.specs.Mend.{mendVerdict, fixAll, mendBytes, changed, mend}
 use Rattle.model.proofs.LayoutLaw.{length-directoryOf}
 use Rattle.model.proofs.ScanLaw.{any-append, codewords-append, scan-all, visits-append, visits-to}
 use Rattle.model.specs.Steps.{anyOf}
-use Rattle.view.proofs.EntriesForLaw.{entriesFor-is}
 use Rattle.lemmas.specs.Steps.{mendHeader, mendWords}
 use Rattle.lemmas.proofs.HeaderLaw.{SameHeader, header-kept, same-directory, same-visits}
 use Rattle.lemmas.proofs.HeaderHalf.{header-keeps, header-verdict, header-size, header-then-words, header-codewords, header-word, header-check}

@@ -2,18 +2,14 @@
 use mathlib.Core.Path.{_≡_, refl, sym, ap, _∙_, subst}
 use mathlib.Core.Bool.{true}
 use mathlib.Core.List.{List, [], _∷_, _++_}
-use Prim.Native.Nat.{ℕ, suc, _+_, _-_, _≤_, _<_}
-use native.Mathlib.Omega.{arith}
-use lib.ListN.{length, length-append}
-use Rattle.model.specs.Bytes.{at, wordAt, Bytes}
-use Rattle.model.specs.Parity.{Class, clean, flipped, uncorrectable, decode, Outcome, outcomeAs, outcome}
-use Rattle.model.specs.Scan.{Codeword, codewordsFrom, isCorrected, isUncorrectable, total, classAt, classesAt}
+use Prim.Native.Nat.{ℕ, _+_}
+use lib.ListN.{length}
+use Rattle.model.specs.Bytes.{Bytes}
+use Rattle.model.specs.Parity.{Class}
+use Rattle.model.specs.Scan.{Codeword, classAt, classesAt}
 use Rattle.model.specs.Mend.{storedCodeword, fixAt, fixAll}
-use Rattle.model.proofs.ScanLaw.{total-append}
 use Rattle.lemmas.proofs.CodewordLaw.{classes-ext}
 use Rattle.lemmas.proofs.Fold.{Inside, AllApart, nil, cons, fix-bytes, fix-length, fix-free}
-use Rattle.scan.specs.Tally.{Totals, counted, withClasses}
-use Rattle.scan.proofs.TallyLaw.{count-next, count-none}
 use Rattle.correcting.specs.Correct.{correctAt, correctAll, met}
 
 -- ---- correcting with the check bytes is mend's fixing

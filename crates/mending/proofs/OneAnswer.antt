@@ -1,15 +1,12 @@
 -- No two answers fit one promise, nor two images that are left. (`asMended` tells every two answers of `mend` apart, whatever bytes are left.) Assumes nothing.
 use mathlib.Core.Path.{_≡_, refl, ap}
-use mathlib.Core.Bool.{Bool}
 use mathlib.Core.List.{List}
 use Prim.Native.Nat.{ℕ}
 use denote.Ref.{now}
-use Rattle.model.specs.Refusals.{Verdict, refuse}
 use Rattle.model.specs.Mend as model
 use Rattle.model.proofs.OneAnswer.{OneAnswerAnd, agree}
 use Rattle.error.specs.Refused.{asVerdict}
 use Rattle.error.proofs.OneAnswer.{one-refusal}
-use Rattle.scan.specs.declared.ScanResult.{ScanResult}
 use Rattle.scan.specs.Answers.{asScan}
 use Rattle.scan.proofs.OneAnswer.{one-scan}
 use Rattle.mending.specs.declared.Mending.{Mending}

@@ -10,7 +10,7 @@ use native.Mathlib.Omega.{arith}
 use borrow.Author.Tests.{eq-eqb}
 use lib.Dec.{eqb}
 use lib.ListN.{length, take, drop, set, length-set, take-append-drop}
-use lib.Seq.{getD-set-same, getD-set-other, length-take-le}
+use lib.Seq.{getD-set-other, length-take-le}
 use Rattle.model.specs.Bytes.{at}
 use Rattle.model.specs.Layout.{maj3, count, headerLength, header}
 use Rattle.model.specs.Mend.{changed}

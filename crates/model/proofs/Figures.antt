@@ -1,19 +1,19 @@
 -- Figures, by computation: the empty plan's image, the 160-byte image, and each refusal number once. Assumes nothing.
 use mathlib.Core.Path.{_≡_, refl}
-use mathlib.Core.Bool.{Bool, true, false}
+use mathlib.Core.Bool.{true, false}
 use mathlib.Core.List.{List, [], _∷_, _++_}
-use mathlib.Core.Option.{Option, none, some}
-use Prim.Native.Nat.{ℕ, zero, suc, _+_, _*_}
+use mathlib.Core.Option.{none, some}
+use Prim.Native.Nat.{ℕ, _+_}
 use lib.Count.{ones}
 use lib.ListN.{length, set, replicate}
 use Rattle.bits.specs.Bit.{bit}
 use Rattle.bits.specs.Linear.{xorColumns}
 use Rattle.model.specs.Bytes.{read, leBytes, tabulate, thrice}
-use Rattle.model.specs.Refusals.{fine, refuse}
+use Rattle.model.specs.Refusals.{fine}
 use Rattle.model.specs.Crc.{bitsLow, sent, serialR, stepR, crc32}
 use Rattle.model.specs.Layout.{voted, prologue, countIn, count, directoryBytesOf, directoryBytes, header, differs, prologueOff, directoryOff, entryOf, entries, directoryOf, directory, Entry}
 use Rattle.model.specs.Parse.{parse, parseVerdict, headerVerdict, prologueVerdict, entriesVerdict, among, headerOf, Parsed, accepted, refused}
-use Rattle.model.specs.Views.{tableSpan, tableVerdict, bytesSpan, Span, noSpan, entriesFor, nth, firstThat}
+use Rattle.model.specs.Views.{tableSpan, tableVerdict, noSpan, nth, firstThat}
 use Rattle.model.specs.Parity.{columns, find, isOdd, classOf, checkOf, syndrome, decode, flipWord}
 use Rattle.model.specs.Scan.{planeOf, isProtected, visitOf, visitsOver, visits, codewordsFrom, wordsOf, codewordsIn, codewords, total, report, classAt, classesAt, scanOf, scan}
 use Rattle.model.specs.Scrub.{scrub, scrubFrom, scrubRegion, scrubVisits, scrubWords, scrubWord, Scrubbed}

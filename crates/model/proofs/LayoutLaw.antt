@@ -1,8 +1,8 @@
 -- Laws of the voted header and of the directory's entries. Assumes nothing.
-use mathlib.Core.Path.{_≡_, refl, sym, ap, ap₂, _∙_, subst}
+use mathlib.Core.Path.{_≡_, refl, sym, ap, ap₂, _∙_}
 use mathlib.Core.Bool.{Bool, true, false, not, _||_, or-true}
-use mathlib.Core.List.{List, [], _∷_, _++_}
-use Prim.Native.Nat.{ℕ, zero, suc, _+_, _-_, _*_, _^_, _≤_, _<_, zero-le, suc-le-suc}
+use mathlib.Core.List.{List, [], _∷_}
+use Prim.Native.Nat.{ℕ, zero, suc, _+_, _*_, _≤_, _<_, zero-le, suc-le-suc}
 use native.Mathlib.Nat.{add-zero, le-of-suc-le-suc, not-suc-le-zero}
 use native.Mathlib.Numerals.{add-one}
 use native.Mathlib.Omega.{arith}
@@ -10,11 +10,11 @@ use borrow.Author.Tests.{eq-eqb, ne-eqb}
 use lib.Dec.{eqb}
 use lib.Bits.{bitAnd, bitOr, and-self, or-self, and-lt, or-lt}
 use lib.ListN.{length, getD, drop, length-append, drop-of-length-le}
-use lib.Seq.{ext-getD, drop-drop, drop-cons}
+use lib.Seq.{drop-drop, drop-cons}
 use Rattle.bits.specs.Vote.{Majority}
 use Rattle.bits.proofs.VoteLaw.{majority}
-use Rattle.model.specs.Bytes.{at, read, tabulate, thrice, Bytes}
-use Rattle.model.specs.Layout.{maj3, voted, prologue, countIn, count, headerLength, directoryBytesOf, directoryBytes, Entry, entryOf, entries, directoryOf, directory, differs, header}
+use Rattle.model.specs.Bytes.{at, read, thrice}
+use Rattle.model.specs.Layout.{maj3, voted, prologue, count, headerLength, directoryBytesOf, directoryBytes, Entry, entryOf, entries, directoryOf, differs, header}
 use Rattle.model.proofs.BytesLaw.{length-tabulate, getD-tabulate, read-drop, length-thrice}
 use Rattle.model.specs.Steps.{entryIn}
 

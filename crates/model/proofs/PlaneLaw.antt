@@ -1,16 +1,16 @@
 -- A region's plane, as its place in the bytes and the region's own bounds tell. Assumes nothing.
-use mathlib.Core.Path.{_≡_, refl, sym, ap, _∙_}
+use mathlib.Core.Path.{_≡_, refl, ap}
 use mathlib.Core.Bool.{Bool, true, false, _&&_}
 use mathlib.Core.Option.{Option, none, some}
-use Prim.Native.Nat.{ℕ, _+_, _*_, _≤_, _<_}
+use Prim.Native.Nat.{ℕ, _≤_, _<_}
 use native.Mathlib.Decide.{decLt}
 use native.Mathlib.Omega.{arith}
-use borrow.Author.Tests.{lt-ltb, le-ltb, ltb-false, le-leb, lt-leb, leb-true}
+use borrow.Author.Tests.{le-ltb, ltb-false, le-leb, lt-leb, leb-true}
 use lib.Dec.{ltb, leb}
 use Rattle.model.specs.Bytes.{given}
 use Rattle.model.specs.Refusals.{refuseIf}
 use Rattle.model.specs.Layout.{Entry, start, end}
-use Rattle.model.specs.Views.{Range, range, placeWithin, Span, span, noSpan, spanAs, boundsVerdict, bytesSpan}
+use Rattle.model.specs.Views.{Range, range, placeWithin, span, noSpan, spanAs, bytesSpan}
 use Rattle.model.specs.Scan.{planeWithin}
 
 -- ---- a region's bounds

@@ -9,7 +9,7 @@ use borrow.Author.Tests.{lt-ltb, le-ltb}
 use Rattle.model.specs.Parse.{parse}
 use Rattle.model.specs.Scan.{scan}
 use Rattle.model.specs.Mend.{MendAnswer, mend}
-use Rattle.model.specs.Programs.{Found, tooLong, foundIn, look, lines, mendWithin, imageOut, lineOf, scrubImage, scrubLine, scrubText}
+use Rattle.model.specs.Programs.{tooLong, foundIn, look, lines, mendWithin, imageOut, lineOf, scrubImage, scrubLine, scrubText}
 
 module _ (most : ℕ) (x : List ℕ) (long : most < length x) where
   pub look-long : tooLong ≡ look most x

@@ -1,5 +1,5 @@
 -- Bytes of an image, read and written. An image is a list of bytes; integers are little-endian; a word is 8 bytes. (FORMAT 1)
-use mathlib.Core.Bool.{Bool, true, false, cond}
+use mathlib.Core.Bool.{Bool, true, false}
 use mathlib.Core.List.{List, [], _∷_, _++_}
 use mathlib.Core.Option.{Option, none, some}
 use Prim.Native.Nat.{ℕ, zero, suc, _+_, _-_, _*_, _/_, _%_, _<_}

@@ -1,11 +1,11 @@
 -- The voted header: prologue, directory, their fields. (FORMAT 3)
 use mathlib.Core.Bool.{Bool, true, false, not, _||_}
 use mathlib.Core.List.{List, [], _∷_, _++_}
-use mathlib.Core.Option.{Option, none, some}
+use mathlib.Core.Option.{Option}
 use Prim.Native.Nat.{ℕ, zero, suc, _+_, _*_, _/_, _^_}
 use lib.Dec.{eqb, ltb}
 use lib.Bits.{bitAnd, bitOr}
-use lib.ListN.{length, getD, drop}
+use lib.ListN.{drop}
 use Rattle.bits.specs.Bit.{bit}
 use Rattle.model.specs.Bytes.{at, read, given, tabulate, thrice}
 

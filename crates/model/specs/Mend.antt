@@ -1,17 +1,17 @@
 -- Laid apart, and mend: first the rules as FORMAT 10 states them, then the procedures that meet them. (FORMAT 10)
 use mathlib.Core.Path.{_≡_}
-use mathlib.Core.Bool.{Bool, true, false, not, _&&_, _||_, cond}
+use mathlib.Core.Bool.{Bool, true, false, _&&_, cond}
 use mathlib.Core.List.{List, [], _∷_, _++_}
 use mathlib.Core.Option.{Option, none, some}
-use Prim.Native.Nat.{ℕ, zero, suc, _+_, _*_, _/_, _≤_, _<_}
+use Prim.Native.Nat.{ℕ, suc, _+_, _*_, _/_, _≤_, _<_}
 use lib.Dec.{eqb, ltb}
 use lib.ListN.{length, drop, set}
 use lib.Seq.{sets}
 use Rattle.model.specs.Bytes.{at, wordAt, leBytes, Bytes}
-use Rattle.model.specs.Refusals.{overlappingRegions, Verdict, fine, refuse, _then_, refuseIf}
+use Rattle.model.specs.Refusals.{overlappingRegions, Verdict, fine, refuse}
 use Rattle.model.specs.Layout.{count, headerLength, header, directory, Entry, start, end}
 use Rattle.model.specs.Views.{nth}
-use Rattle.model.specs.Parse.{parseVerdict, Header, Parsed, accepted, refused, parse}
+use Rattle.model.specs.Parse.{Header, Parsed, accepted, refused, parse}
 use Rattle.model.specs.Parity.{Class, clean, flipped, uncorrectable, flipWord, checkOf, fixedWord, fixedCheck}
 use Rattle.model.specs.Scan.{Codeword, Among, codewords, classAt, Report, scan}
 

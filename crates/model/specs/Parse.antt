@@ -1,7 +1,7 @@
 -- Parse: the order of the refusals. (FORMAT 5)
-use mathlib.Core.Bool.{Bool, true, false, not, _||_}
+use mathlib.Core.Bool.{Bool, false, not, _||_}
 use mathlib.Core.List.{List, [], _∷_}
-use Prim.Native.Nat.{ℕ, zero, suc, _+_, _*_}
+use Prim.Native.Nat.{ℕ, suc}
 use lib.Dec.{eqb, ltb}
 use lib.ListN.{length, take}
 use Rattle.model.specs.Refusals.{truncated, badMagic, foreignEndian, unsupportedVersion, badPrologueChecksum, tooManyRegions, regionOutOfBounds, duplicateRegion, Verdict, fine, refuse, _then_, refuseIf}

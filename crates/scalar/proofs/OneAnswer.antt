@@ -1,7 +1,5 @@
 -- No two answers fit one promise. (`asModel..` tells every two answers of a reader apart.) Assumes nothing.
 use mathlib.Core.Path.{_≡_, refl}
-use mathlib.Core.Option.{Option, none, some}
-use Prim.Native.Nat.{ℕ}
 use Rattle.model.proofs.OneAnswer.{OneAnswer, agree}
 use Rattle.scalar.specs.declared.U8At.{U8At}
 use Rattle.scalar.specs.declared.U8At.the-variants as u8

@@ -1,6 +1,5 @@
 -- No two answers fit one promise. (`asScan` and `asTotals` tell every two apart.) Assumes nothing.
 use mathlib.Core.Path.{_≡_, refl, ap}
-use mathlib.Core.Option.{Option, none, some}
 use Rattle.model.specs.Scan.{Report}
 use Rattle.model.proofs.OneAnswer.{OneAnswer, agree}
 use Rattle.ecc.specs.Answers.{asReport}

@@ -4,7 +4,7 @@ use mathlib.Core.Bool.{Bool}
 use mathlib.Core.List.{List, [], _∷_, _++_}
 use Prim.Native.Nat.{ℕ, suc, _+_, _≤_}
 use native.Mathlib.Omega.{arith}
-use lib.ListN.{length, length-append}
+use lib.ListN.{length-append}
 use Rattle.model.specs.Parity.{Class, clean, flipped, uncorrectable, Outcome, cleanWord, correctedWord, uncorrectableWord, outcomeAs}
 use Rattle.model.specs.Scan.{Report, total, isCorrected, isUncorrectable, report}
 use Rattle.model.proofs.ScanLaw.{plus-none, plus-assoc, report-none, total-append}

@@ -2,7 +2,6 @@
 use mathlib.Core.Path.{_≡_, sym, ap, ap₂, _∙_}
 use mathlib.Core.Bool.{Bool, or-false, or-assoc}
 use mathlib.Core.List.{List, [], _++_}
-use mathlib.Core.Option.{Option}
 use Prim.Native.Nat.{ℕ, suc, _+_, _≤_}
 use native.Mathlib.Numerals.{add-one}
 use native.Mathlib.Omega.{arith}
@@ -12,7 +11,7 @@ use Rattle.model.specs.Refusals.{fine}
 use Rattle.model.specs.Layout.{Entry, count}
 use Rattle.model.specs.Parse.{parseVerdict}
 use Rattle.model.specs.Views.{entriesFor, nth}
-use Rattle.model.specs.Scan.{Report, report, Visit, visitsOver, Codeword, codewordsIn, classesAt, scanOf, scanIn, visits, scan}
+use Rattle.model.specs.Scan.{report, Visit, visitsOver, Codeword, codewordsIn, classesAt, scanOf, scanIn, visits, scan}
 use Rattle.model.specs.Scrub.{visitAt}
 use Rattle.model.proofs.ScanLaw.{plus-none, none-plus, plus-assoc, report-append, report-none, any-append, codewords-append, scan-given, visits-from}
 use Rattle.model.specs.Steps.{anyOf}

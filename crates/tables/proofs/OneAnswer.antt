@@ -1,11 +1,9 @@
 -- No two answers fit one promise. (`asSpan` and `asPlace` tell every two apart, `PartAt` every two slices.) Assumes nothing.
 use mathlib.Core.Path.{_≡_, refl, ap, ap₂}
 use mathlib.Core.List.{List}
-use mathlib.Core.Option.{Option, none, some}
 use Prim.Native.Nat.{ℕ}
 use denote.Ref.{RefT, now}
-use Rattle.model.specs.Refusals.{Verdict, refuse}
-use Rattle.model.specs.Views.{Range, range, Span, span, noSpan}
+use Rattle.model.specs.Views.{Range, range}
 use Rattle.model.proofs.OneAnswer.{One, OneAnswer, agree}
 use Rattle.error.specs.Refused.{asVerdict}
 use Rattle.error.proofs.OneAnswer.{one-refusal}

@@ -1,7 +1,7 @@
 -- A part that is found lies within the bytes. Assumes nothing.
-use mathlib.Core.Path.{_≡_, refl, sym, ap, _∙_, subst}
+use mathlib.Core.Path.{_≡_, refl, sym, ap, subst}
 use mathlib.Core.Bool.{Bool, true, false, not, _&&_}
-use mathlib.Core.Option.{Option, none, some}
+use mathlib.Core.Option.{some}
 use Prim.Native.Nat.{ℕ, suc, _+_, _*_, _/_, _%_, _≤_, _<_}
 use native.Mathlib.Nat.{suc-mul, le-div-iff-mul-le}
 use native.Mathlib.Decide.{decLe}
@@ -11,7 +11,7 @@ use lib.Dec.{eqb, ltb, leb}
 use Rattle.model.specs.Bytes.{given}
 use Rattle.model.specs.Refusals.{Verdict, fine, refuse, _then_, refuseIf}
 use Rattle.model.specs.Layout.{Entry, start, end}
-use Rattle.model.specs.Views.{Range, range, Span, span, noSpan, spanAs, boundsVerdict, bytesSpan, badStride, tableVerdict, tableSpan, recordRange, poolRange}
+use Rattle.model.specs.Views.{Range, range, span, spanAs, boundsVerdict, bytesSpan, badStride, tableVerdict, tableSpan, recordRange, poolRange}
 use Rattle.model.proofs.ParseLaw.{then-first, then-rest, not-refused}
 
 -- a place within len bytes

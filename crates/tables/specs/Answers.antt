@@ -1,6 +1,5 @@
 -- The model's reading of each answer. (FORMAT 6)
 use mathlib.Core.Option.{Option, none, some}
-use Prim.Native.Nat.{ℕ, _≤_}
 use Rattle.model.specs.Views.{Range, range, Span, span, noSpan}
 use Rattle.error.specs.Refused.{numberOf, detailOf}
 use Rattle.tables.specs.declared.PartSpan.{PartSpan}

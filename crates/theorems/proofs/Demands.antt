@@ -13,7 +13,7 @@ use mathlib.Core.Path.{_≡_, ap₂}
 use mathlib.Core.Bool.{Bool, true, false}
 use mathlib.Core.List.{List, [], _∷_, _++_}
 use mathlib.Core.Logic.{_⊎_}
-use mathlib.Core.Option.{Option, none}
+use mathlib.Core.Option.{Option}
 use Prim.Native.Nat.{ℕ, _+_, _*_, _/_, _^_, _≤_, _<_}
 use lib.Bits.{bitXor}
 use lib.Dec.{ltb}
@@ -30,7 +30,7 @@ use Rattle.model.specs.Scan.{Report, scan}
 use Rattle.model.specs.Scrub.{scrub}
 use Rattle.model.specs.Writer.{planes, planImage, imageLength, planVerdict, image, write}
 use Rattle.model.specs.Writer as plan
-use Rattle.model.specs.Mend.{LaidApart, FirstMisplaced, MendRule, mendBytes, changed, whole, mended, refusedMend, mendVerdict, mend, placement, placementVerdict}
+use Rattle.model.specs.Mend.{LaidApart, FirstMisplaced, MendRule, mendBytes, changed, whole, mended, refusedMend, mend, placement}
 use Rattle.model.specs.Placement.{TrueOf}
 use Rattle.model.specs.Programs.{storedLine, lines, scrubImage, scrubText}
 use Rattle.model.proofs.FigureTable as figure

@@ -14,7 +14,7 @@ use Rattle.model.specs.Writer.{planes}
 use Rattle.model.specs.Programs.{storedLine, lines}
 use Rattle.text.specs.declared.Printed.{Printed}
 use lib.Seq.{sets}
-use Rattle.model.specs.Mend.{LaidApart, FirstMisplaced, MendRule, changed, whole, mended, mend}
+use Rattle.model.specs.Mend.{LaidApart, FirstMisplaced, MendRule, changed, whole, mended}
 use Rattle.error.specs.declared.Refusal.the-variants.{OverlappingRegions}
 use Rattle.mending.proofs.OneAnswer.{one-mend}
 use Rattle.scan.specs.Answers.{asScan}

@@ -12,7 +12,7 @@ use Rattle.model.specs.Layout.{prologue, magicIn, markerIn, versionIn, countIn,
 use Rattle.model.specs.Parse.{prologueVerdict, among, entriesVerdict, headerVerdict, parseVerdict, Header, headerOf, accepted, refused, parsedAs, parse}
 use Rattle.model.specs.Scan.{scan}
 use Rattle.lemmas.proofs.ApartVerdict.{apartVerdict, mend-verdict}
-use Rattle.model.specs.Mend.{LaidApart, FirstMisplaced, mendVerdict, mendBytes, changed, whole, mended, refusedMend, mendAs, mend}
+use Rattle.model.specs.Mend.{LaidApart, FirstMisplaced, mendBytes, changed, whole, mended, refusedMend, mendAs, mend}
 use Rattle.lemmas.proofs.MisplacedLaw.{placed, accepts-apart, names-first}
 
 -- ---- parse has no number from 12 on

@@ -14,10 +14,9 @@ use Rattle.layout.specs.Regions.{regionOf}
 use Rattle.view.specs.declared.header.Header as view
 use Rattle.view.specs.declared.header.ParseResult.{ParseResult}
 use Rattle.view.specs.declared.header.ParseResult.the-variants.{Parsed, Refused}
-use Rattle.view.specs.declared.regions.RegionAt.{RegionAt}
 use Rattle.view.specs.declared.regions.RegionAt.the-variants.{Found, Nothing}
 use Rattle.model.specs.Refusals.{Verdict, fine, refuse}
-use Rattle.view.specs.Answers.{CountAnswer, fineWith, refusedWith, withCount, foundAs, asParsed}
+use Rattle.view.specs.Answers.{fineWith, refusedWith, withCount, foundAs, asParsed}
 
 pub counted-fine : (v : Verdict) (n m : ℕ) → fineWith n ≡ withCount v m → v ≡ fine
 counted-fine fine n m e = refl

@@ -1,8 +1,8 @@
 -- The entries that a lookup sees. Assumes nothing.
-use mathlib.Core.Path.{_≡_, refl, sym, ap, _∙_}
+use mathlib.Core.Path.{_≡_, sym, ap, _∙_}
 use mathlib.Core.Bool.{Bool, true, false, not, _&&_, cond}
 use mathlib.Core.List.{List, []}
-use mathlib.Core.Option.{Option, none, some}
+use mathlib.Core.Option.{none, some}
 use Prim.Native.Nat.{ℕ, _+_, _*_, _^_, _≤_, _<_}
 use native.Mathlib.Omega.{arith}
 use borrow.Author.Tests.{eq-eqb, ne-eqb, lt-ltb, le-ltb, le-leb, lt-leb}
@@ -14,13 +14,11 @@ use Rattle.model.specs.Bytes.{read}
 use Rattle.model.specs.Refusals.{fine}
 use Rattle.model.specs.Layout.{Entry, count, headerLength, voted, directoryBytesOf, directoryOf, directory, entries, start, end}
 use Rattle.model.specs.Parse.{parseVerdict}
-use Rattle.model.specs.Views.{Range, range, entriesFor, nth, regionAt, firstThat, ofKind, planeFor, findRegion, placeWithin, eccFor}
+use Rattle.model.specs.Views.{range, entriesFor, nth, regionAt, firstThat, ofKind, planeFor, findRegion, eccFor}
 use Rattle.model.proofs.LayoutLaw.{noEntry, entry-at, length-directoryOf, flags-in, covers-in}
 use Rattle.model.proofs.ParseLaw.{accepted-long}
 use Rattle.model.proofs.WalkLaw.{nth-in, nth-past}
 use Rattle.model.specs.Steps.{entryIn}
-use Rattle.layout.specs.declared.Region.{Region}
-use Rattle.layout.specs.Regions.{regionOf}
 use Rattle.layout.proofs.FlagLaw.{flag}
 use Rattle.view.proofs.RegionLaw.{kind-front}
 

@@ -1,5 +1,5 @@
 -- The kinds of the entries, and whether one is among them. Assumes nothing.
-use mathlib.Core.Path.{_≡_, refl, sym, ap, ap₂, _∙_}
+use mathlib.Core.Path.{_≡_, refl, sym, ap, _∙_}
 use mathlib.Core.Bool.{Bool, true, false, _||_, or-true}
 use mathlib.Core.List.{List, [], _∷_}
 use Prim.Native.Nat.{ℕ, zero, suc, _+_, _*_, _≤_, _<_}
@@ -7,8 +7,7 @@ use native.Mathlib.Numerals.{add-one}
 use borrow.Author.Tests.{eq-eqb, ne-eqb}
 use lib.Dec.{eqb}
 use lib.ListN.{length, getD, drop}
-use lib.Seq.{drop-cons, drop-nil}
-use native.Mathlib.Omega.{arith}
+use lib.Seq.{drop-cons}
 use lib.ListN.{drop-of-length-le}
 use Rattle.model.specs.Bytes.{read}
 use Rattle.model.specs.Layout.{Entry, voted, directoryBytesOf, directoryOf, entries}

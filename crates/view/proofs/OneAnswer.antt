@@ -1,7 +1,6 @@
 -- No two answers fit one promise. (`asParsed` tells every two of `parse` apart. `region_at` and `find_region` answer what `foundAs` gives, and `ecc_for` a Place: `one-place` of crate tables.) Assumes nothing.
-use mathlib.Core.Path.{_≡_, refl, ap}
-use Rattle.model.specs.Refusals.{Verdict, refuse}
-use Rattle.model.specs.Parse.{Parsed, accepted, refused}
+use mathlib.Core.Path.{_≡_, ap}
+use Rattle.model.specs.Parse.{Parsed}
 use Rattle.model.specs.Parse as model
 use Rattle.model.proofs.OneAnswer.{OneAnswer, agree}
 use Rattle.error.specs.Refused.{asVerdict}

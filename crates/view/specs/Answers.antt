@@ -1,5 +1,4 @@
 -- The model's reading of each answer. (FORMAT 5, 6)
-use mathlib.Core.Bool.{Bool, true, false}
 use mathlib.Core.Option.{Option, none, some}
 use Prim.Native.Nat.{ℕ}
 use Rattle.model.specs.Layout.{Entry}

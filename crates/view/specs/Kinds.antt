@@ -1,5 +1,5 @@
 -- Steps of code, for private contracts; nothing that a reader must believe. The kinds of a run of entries, beside the entries. (FORMAT 5)
-use mathlib.Core.Bool.{Bool, true, false, _||_}
+use mathlib.Core.Bool.{Bool, false, _||_}
 use mathlib.Core.List.{List, [], _∷_}
 use Prim.Native.Nat.{ℕ}
 use lib.Dec.{eqb}

@@ -1,7 +1,7 @@
 -- `kw::kw_mend` meets its contract. Assumes nothing.
 use mathlib.Core.Path.{sym, ap, _∙_}
 use mathlib.Core.List.{[], _∷_}
-use Prim.Native.Nat.{ℕ, _+_, _-_}
+use Prim.Native.Nat.{ℕ}
 use borrow.Author.Needs.{needs}
 use Rattle.mending.specs.Answers.{asMended}
 use Rattle.mending.specs.declared.MendResult.{MendResult}

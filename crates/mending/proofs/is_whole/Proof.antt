@@ -1,6 +1,5 @@
 -- `mending::is_whole` meets its contract. Assumes nothing.
 use mathlib.Core.Path.{sym, ap}
-use Prim.Native.Nat.{_+_, _-_}
 use borrow.Author.Needs.{needs}
 use Rattle.model.specs.Mend.{noneUncorrectable}
 use Rattle.scan.specs.Answers.{asScan}

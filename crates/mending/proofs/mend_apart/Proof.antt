@@ -1,16 +1,14 @@
 -- `mending::mend_apart` meets its contract. Assumes nothing.
-use mathlib.Core.Path.{_≡_, sym, ap, ap₂, _∙_, subst}
+use mathlib.Core.Path.{_≡_, sym, ap, ap₂, _∙_}
 use mathlib.Core.Bool.{Bool}
 use mathlib.Core.List.{List}
 use mathlib.Core.Option.{Option}
-use Prim.Native.Nat.{ℕ, _+_, _≤_}
+use Prim.Native.Nat.{ℕ, _+_}
 use native.Mathlib.Omega.{arith}
 use borrow.Author.Needs.{needs}
 use denote.Ref.{now}
-use lib.ListN.{length}
 use Rattle.model.specs.Bytes.{Bytes}
 use Rattle.model.specs.Refusals.{fine}
-use Rattle.model.specs.Layout.{headerLength}
 use Rattle.model.specs.Scan.{Report, scan}
 use Rattle.model.specs.Mend as model
 use Rattle.model.specs.Mend.{mendVerdict, changed, mendBytes}

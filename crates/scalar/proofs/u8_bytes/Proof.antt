@@ -1,5 +1,5 @@
 -- `scalar::u8_bytes` meets its contract. Assumes nothing.
-use mathlib.Core.List.{List, [], _∷_}
+use mathlib.Core.List.{[], _∷_}
 use mathlib.Core.Path.{sym, ap}
 use Prim.Native.Nat.{ℕ}
 use native.Mathlib.Nat.{mod-eq-of-lt}

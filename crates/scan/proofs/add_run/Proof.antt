@@ -1,10 +1,9 @@
 -- `scan::add_run` meets its contract. Assumes nothing.
-use mathlib.Core.Path.{_≡_, refl, sym, ap, ap₂, _∙_, subst}
+use mathlib.Core.Path.{_≡_, sym, ap, ap₂, _∙_, subst}
 use native.Mathlib.Omega.{arith}
 use borrow.Author.Needs.{needs}
 use denote.Ref.{now}
 use Rattle.model.specs.Scan.{Report, classesAt}
-use Rattle.ecc.specs.Answers.{asReport}
 use Rattle.scan.specs.Runs.{codewordsOf}
 use Rattle.scan.specs.Tally.{Totals, asTotals, marked, withReport, Bounded, Room}
 use Rattle.scan.proofs.TallyLaw.{bounded-report, room-report}

@@ -1,5 +1,5 @@
 -- `scan::verify_region` meets its contract. Assumes nothing.
-use mathlib.Core.Path.{_≡_, ap, _∙_, subst, sym}
+use mathlib.Core.Path.{ap, _∙_}
 use native.Mathlib.Omega.{arith}
 use borrow.Author.Needs.{needs}
 use denote.Ref.{now}
@@ -8,7 +8,7 @@ use Rattle.model.specs.Views.{entriesFor}
 use Rattle.model.specs.Scan.{classesAt, planeOf, visitWith, scanRegion}
 use Rattle.layout.specs.Regions.{asEntry}
 use Rattle.scan.specs.Runs.{codewordsOf}
-use Rattle.scan.specs.Tally.{Totals, asTotals, noTotals, marked, withClasses, Room}
+use Rattle.scan.specs.Tally.{Totals, asTotals, noTotals, marked, withClasses}
 use Rattle.scan.proofs.TallyLaw.{room-start}
 use Rattle.scan.proofs.VisitLaw.{run-more, all-said}
 use Rattle.scan.proofs.verify_region.Statement.{statement}

@@ -1,5 +1,5 @@
 -- `tables::is_table` meets its contract. Assumes nothing.
-use Prim.Native.Nat.{_-_, _%_}
+use Prim.Native.Nat.{_%_}
 use borrow.Author.Needs.{needs}
 use borrow.Author.Tests.{eq-eqb, ne-eqb}
 use Rattle.model.specs.Views.{isTable}

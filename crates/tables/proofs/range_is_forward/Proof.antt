@@ -1,5 +1,4 @@
 -- `tables::range_is_forward` meets its contract. Assumes nothing.
-use Prim.Native.Nat.{_-_}
 use borrow.Author.Needs.{needs}
 use borrow.Author.Tests.{lt-ltb, le-ltb}
 use Rattle.model.specs.Views.{rangeIsForward}

@@ -4,7 +4,7 @@ use mathlib.Core.List.{List}
 use Prim.Native.Nat.{ℕ, _+_, _-_, _≤_}
 use native.Mathlib.Omega.{arith}
 use denote.Ref.{now}
-use lib.ListN.{length, take}
+use lib.ListN.{length}
 use Rattle.model.specs.Mend.{changed}
 use Rattle.lemmas.specs.Steps.{copyVotes}
 use Rattle.mending.proofs.VoteLaw.{changed-most, Untouched, changed-next, untouched-next, votes-next, votes-done}

@@ -2,7 +2,6 @@
 use mathlib.Core.Path.{ap}
 use borrow.Author.Needs.{needs}
 use Rattle.model.specs.Scan.{Report}
-use Rattle.scan.specs.Tally.{Totals}
 use Rattle.scan.proofs.tally.add_report.Statement.{statement}
 use Rattle.scan.proofs.tally.add_report.Tie as tie
 

@@ -1,9 +1,7 @@
 -- `scan::tally::add_word` meets its contract. Assumes nothing.
 use mathlib.Core.Path.{ap}
-use mathlib.Core.Bool.{Bool}
 use borrow.Author.Needs.{needs}
 use Rattle.model.specs.Scan.{Report}
-use Rattle.scan.specs.Tally.{Totals}
 use Rattle.scan.proofs.tally.add_word.Statement.{statement}
 use Rattle.scan.proofs.tally.add_word.Tie as tie
 

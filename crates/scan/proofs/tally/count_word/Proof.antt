@@ -1,6 +1,5 @@
 -- `scan::tally::count_word` meets its contract. Assumes nothing.
 use mathlib.Core.Path.{sym, ap, _∙_}
-use native.Mathlib.Omega.{arith}
 use borrow.Author.Needs.{needs}
 use Rattle.ecc.specs.Answers.{asOutcome, asReport}
 use Rattle.ecc.specs.declared.WordStatus.{WordStatus}

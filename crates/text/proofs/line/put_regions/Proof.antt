@@ -4,7 +4,7 @@ use mathlib.Core.Bool.{Bool}
 use Rattle.put.specs.Put.{Put}
 use native.Mathlib.Omega.{arith}
 use borrow.Author.Needs.{needs}
-use Rattle.model.specs.Programs.{text, field, wanted, regionsLine}
+use Rattle.model.specs.Programs.{text, field, regionsLine}
 use Rattle.put.proofs.PutLaw.{put-two}
 use Rattle.text.proofs.line.put_regions.Statement.{statement}
 use Rattle.text.proofs.line.put_regions.Tie as tie

@@ -1,5 +1,4 @@
 -- `view::regions::covers_kind` meets its contract. Assumes nothing.
-use Prim.Native.Nat.{_-_}
 use Rattle.view.proofs.EntriesForLaw.{flag-off, flag-on}
 use Rattle.view.proofs.regions.covers_kind.Statement.{statement}
 use Rattle.view.proofs.regions.covers_kind.Tie as tie

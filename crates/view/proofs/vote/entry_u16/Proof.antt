@@ -1,5 +1,4 @@
 -- `view::vote::entry_u16` meets its contract. Assumes nothing.
-use Prim.Native.Nat.{_-_}
 use native.Mathlib.Omega.{arith}
 use borrow.Author.Needs.{needs}
 use Rattle.view.proofs.vote.entry_u16.Statement.{statement}

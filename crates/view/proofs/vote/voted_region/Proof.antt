@@ -1,5 +1,4 @@
 -- `view::vote::voted_region` meets its contract. Assumes nothing.
-use Prim.Native.Nat.{_-_}
 use borrow.Author.Needs.{needs}
 use denote.Ref.{now}
 use Rattle.view.proofs.RegionLaw.{region-read}
