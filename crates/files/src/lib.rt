@@ -10,7 +10,7 @@ use stdin::Input;
 // Says why the system failed at a file. It is called right after the call that failed.
 pub fn fail(name: &[u8]) {
     let mut text = [0u8; 4352];
-    let k = messages::subject(name, &mut text);
+    let k = paths::subject(name, &mut text);
     os::fail(&text[..k]);
 }
 

@@ -25,7 +25,3 @@ complaint name (verdict.Refused r) = lines ((naming name ++ sentence r) ∷ [])
 -- no name is longer than 4,096 bytes, and of one that were nothing is said
 unfoldable pub refusalText : List ℕ → Verdict → List ℕ
 refusalText name v = cond (ltb 4096 (length name)) [] (complaint name v)
-
--- the system's reason follows
-unfoldable pub subjectText : List ℕ → List ℕ
-subjectText name = cond (ltb 4096 (length name)) (text "kw") (text "kw: " ++ name)

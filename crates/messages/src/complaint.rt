@@ -8,7 +8,7 @@ ghost use Rattle.io.specs.Counts.{Counts};
 ghost use Rattle.put.specs.Put.{Put};
 ghost use Rattle.model.specs.Programs.{lines};
 ghost use Rattle.sentences.specs.Sentences.{sentence};
-ghost use Rattle.messages.specs.Complaints.{tooLongSentence, naming, refusalText, subjectText};
+ghost use Rattle.messages.specs.Complaints.{tooLongSentence, naming, refusalText};
 use error::Refusal;
 use exit_status::Verdict;
 use put::put_bytes;
@@ -62,17 +62,4 @@ pub fn refusal(name: &[u8], verdict: Verdict, out: &mut [u8; 4352]) -> usize
         Verdict::TooLong => put_too_long(out, name),
         Verdict::Refused(refusal) => put_refused(out, name, refusal),
     }
-}
-
-// What a reason of the system's is about.
-pub fn subject(name: &[u8], out: &mut [u8; 4352]) -> usize
-    ensures is { λ r. ⌜ r ≡ length (subjectText (now (name .entry))) ⌝ }
-    ensures leaves { λ _. ⌜ now (out .exit) ≡ sets (now (out .entry)) 0 (subjectText (now (name .entry))) ⌝ }
-    ensures fits { λ r. ⌜ Counts r (now (out .exit)) ⌝ }
-{
-    if name.len() > LONGEST_NAME {
-        return put_bytes(out, 0, b"kw");
-    }
-    let at = put_bytes(out, 0, b"kw: ");
-    put_bytes(out, at, name)
 }

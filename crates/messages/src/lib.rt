@@ -3,7 +3,6 @@ mod complaint;
 mod usage;
 
 pub use complaint::refusal;
-pub use complaint::subject;
 pub use usage::fault;
 pub use usage::help;
 pub use usage::version;

@@ -30,3 +30,7 @@ rooted link = eqb (getD link 0 0) 47
 -- where the link at path leads: a text that begins with a slash is a name by itself, any other is one in the link's folder
 unfoldable pub followedName : List ℕ → List ℕ → List ℕ
 followedName path link = cond (longerThanNames path) [] (cond (longerThanNames link) [] (cond (rooted link) link (folder path ++ link)))
+
+-- a name as the start of a line on standard error, which the system's reason follows
+unfoldable pub subjectText : List ℕ → List ℕ
+subjectText name = cond (ltb 4096 (length name)) (text "kw") (text "kw: " ++ name)

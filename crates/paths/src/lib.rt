@@ -1,4 +1,4 @@
-// The names of the files that the command writes. A name is put at the start of out, and its length given. (FORMAT 14)
+// The names of the files that the command writes, and a name as it is shown. Each is put at the start of out, and its length given. (FORMAT 14)
 ghost use mathlib.Core.Path.{_≡_};
 ghost use mathlib.Core.Bool.{cond};
 ghost use mathlib.Core.List.{_++_};
@@ -8,7 +8,7 @@ ghost use lib.ListN.{length};
 ghost use lib.Seq.{sets};
 ghost use Rattle.io.specs.Counts.{Counts};
 ghost use Rattle.put.specs.Put.{Put};
-ghost use Rattle.paths.specs.Paths.{folderLength, folder, temporaryName, rooted, followedName};
+ghost use Rattle.paths.specs.Paths.{folderLength, folder, temporaryName, rooted, followedName, subjectText};
 use put::put_bytes;
 
 const LONGEST_NAME: usize = 4096;
@@ -82,4 +82,17 @@ pub fn followed(path: &[u8], link: &[u8], out: &mut [u8; 8192]) -> usize
         return put_bytes(out, 0, link);
     }
     put_beside(out, path, link)
+}
+
+// A name as the start of a line on standard error, which the system's reason follows.
+pub fn subject(name: &[u8], out: &mut [u8; 4352]) -> usize
+    ensures is { λ r. ⌜ r ≡ length (subjectText (now (name .entry))) ⌝ }
+    ensures leaves { λ _. ⌜ now (out .exit) ≡ sets (now (out .entry)) 0 (subjectText (now (name .entry))) ⌝ }
+    ensures fits { λ r. ⌜ Counts r (now (out .exit)) ⌝ }
+{
+    if name.len() > LONGEST_NAME {
+        return put_bytes(out, 0, b"kw");
+    }
+    let at = put_bytes(out, 0, b"kw: ");
+    put_bytes(out, at, name)
 }

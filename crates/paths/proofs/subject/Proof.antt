@@ -1,4 +1,4 @@
--- `messages::complaint::subject` meets its contract. Assumes nothing.
+-- `paths::subject` meets its contract. Assumes nothing.
 use mathlib.Core.Path.{_≡_}
 use mathlib.Core.List.{List, _++_}
 use Prim.Native.Nat.{ℕ, _≤_, _<_}
@@ -10,9 +10,9 @@ use Rattle.io.proofs.Counting.{counts}
 use Rattle.model.specs.Programs.{text}
 use Rattle.put.proofs.PutLaw.{put-two}
 use Rattle.put.proofs.LinesLaw.{text-put}
-use Rattle.messages.specs.Complaints.{subjectText}
-use Rattle.messages.proofs.complaint.subject.Statement.{statement}
-use Rattle.messages.proofs.complaint.subject.Tie as tie
+use Rattle.paths.specs.Paths.{subjectText}
+use Rattle.paths.proofs.subject.Statement.{statement}
+use Rattle.paths.proofs.subject.Tie as tie
 
 unnamed : (name : List ℕ) → 4096 < length name → text "kw" ≡ subjectText name
 unfolding subjectText
