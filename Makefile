@@ -2,7 +2,7 @@
 #
 #   make            prove every crate; build bin/kw, report, scrub, libkw.a, libkw.so.0 and a sample image
 #   make demo       damage the sample, look at it, mend it, and see that it is as it was
-#   make test       the gate: prove all from nothing, compare with the Rust, run everything
+#   make test       the gate: prove all from nothing, try every wrong program, compare with the Rust, run everything
 #   make check      the same
 #   make refused    see that each wrong program of crates/*/must-fail was refused where it is wrong; after rt ci
 #   make compare    run ours and the Rust on the same inputs (SEED=N for other random ones)

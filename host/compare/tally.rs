@@ -30,6 +30,16 @@ impl Tally {
         self.different += group.different;
     }
 
+    /// The tallies of several comparisons together.
+    pub fn sum(tallies: impl IntoIterator<Item = Tally>) -> Tally {
+        let mut sum = Tally::default();
+        for tally in tallies {
+            sum.cases += tally.cases;
+            sum.different += tally.different;
+        }
+        sum
+    }
+
     /// Prints the count that the gate reads. True if something was compared and all was equal.
     pub fn finish(self) -> bool {
         println!("compared {} cases, {} different", self.cases, self.different);

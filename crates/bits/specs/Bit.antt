@@ -2,7 +2,7 @@
 use mathlib.Core.Bool.{Bool, true, false, not}
 use Prim.Native.Nat.{ℕ, zero, suc, _/_, _%_}
 
--- what is not 0
+-- whether a number is not 0
 abbrev pub isOne : ℕ → Bool
 isOne zero = false
 isOne (suc n) = true

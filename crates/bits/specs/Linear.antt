@@ -6,7 +6,7 @@ use Prim.Native.Nat.{ℕ, zero, suc, _*_, _/_}
 use lib.Bits.{bitXor}
 use Rattle.bits.specs.Bit.{bit}
 
--- c, if its bit is set
+-- c if the bit is set, else 0
 abbrev pub pick : Bool → ℕ → ℕ
 pick true c = c
 pick false c = 0

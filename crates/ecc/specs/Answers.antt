@@ -25,11 +25,11 @@ asReport r = record { words = r .words; corrected = r .corrected; uncorrectable 
 
 -- ---- steps of code, for private contracts
 
--- a place among the 72, and for none 72
+-- a place among the 72 columns; 72 stands for none
 abbrev pub placeIn : Option ℕ → ℕ
 placeIn none = 72
 placeIn (some i) = i
 
--- the class of bit i of the 72, and of none, 72
+-- bit i of the 72 is flipped; 72 stands for uncorrectable
 abbrev pub classOfBit : ℕ → Class
 classOfBit i = cond (ltb i 72) (flipped i) uncorrectable

@@ -21,13 +21,13 @@ abbrev pub verdictIf : Bool → Verdict
 verdictIf true = Damaged
 verdictIf false = Sound
 
--- of an image as it is: a copy of the header that is to be mended, or a word that is, or cannot be
+-- an image is damaged if a header copy differs from the vote, or a word is corrected or uncorrectable
 abbrev pub reportVerdict : Found → Verdict
 reportVerdict found.TooLong = TooLong
 reportVerdict (found.Refused r) = Refused r
 reportVerdict (found.Image f) = verdictIf (f .«needs_scrub» || damagedIn (asScan (f .report)))
 
--- of what mend leaves: a word that it could not correct
+-- a mended image is damaged if a word remains uncorrectable
 abbrev pub mendingVerdict : Outcome → Verdict
 mendingVerdict outcome.TooLong = TooLong
 mendingVerdict (outcome.Refused r) = Refused r

@@ -55,7 +55,7 @@ pub fn report_verdict(found: Found) -> Verdict
     }
 }
 
-// Of what mend leaves.
+// What is wrong with an image once it is mended.
 pub fn mending_verdict(outcome: Outcome) -> Verdict
     ensures { λ r. ⌜ r ≡ mendingVerdict outcome ⌝ }
 {

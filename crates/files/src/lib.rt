@@ -23,7 +23,7 @@ pub(crate) fn write(file: i32, name: &[u8], bytes: &[u8]) -> bool {
     written
 }
 
-// Writes to standard output, in the same way.
+// Writes to standard output, and says why where it can't.
 pub fn print(text: &[u8]) -> bool {
     write(libc::STDOUT_FILENO, b"standard output", text)
 }

@@ -30,7 +30,7 @@ fn nothing() -> stat {
     }
 }
 
-// What was there before, where the system says nothing.
+// What the system says of an open file; `about` as it was given where it says nothing.
 fn filled(file: i32, mut about: stat) -> stat {
     libc::fstat(file, &mut about);
     about

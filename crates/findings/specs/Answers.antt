@@ -18,7 +18,7 @@ asFound found.TooLong = model.tooLong
 asFound (found.Refused r) = model.refusedImage (numberOf r) (detailOf r)
 asFound (found.Image f) = model.image (f .regions) (f .«needs_scrub») (asScan (f .report))
 
--- with the image y that is left
+-- what mend_within answered, with the image y that it leaves, as the model's answer
 abbrev pub asOutcome : Outcome → List ℕ → Option MendAnswer
 asOutcome outcome.TooLong y = none
 asOutcome (outcome.Refused r) y = some (refusedMend (numberOf r) (detailOf r))

@@ -1,4 +1,4 @@
-// What is found in an image that may have so many bytes, and what mend makes of one. (FORMAT 11)
+// What is found in an image of at most `most` bytes, and what mend makes of one. (FORMAT 11)
 ghost use mathlib.Core.Path.{_≡_};
 ghost use Rattle.model.specs.Programs as model;
 ghost use Rattle.scan.specs.Answers.{asScan};

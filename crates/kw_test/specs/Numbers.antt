@@ -13,7 +13,7 @@ abbrev pub asNumbers : Option ℕ → List ℕ
 asNumbers (some n) = 1 ∷ n ∷ []
 asNumbers none = 0 ∷ 0 ∷ []
 
--- of an entry's flags, offset and length in words: offset and length in bytes, and whether it is encrypted, a plane, protected
+-- of an entry's flags, offset and length in words: offset and length in bytes, and whether it is encrypted, is a plane, is flagged 2
 abbrev pub regionNumbers : ℕ → ℕ → ℕ → List ℕ
 regionNumbers flags offset words =
     8 * offset ∷ 8 * words ∷ num (isEncrypted flags) ∷ num (isPlane flags) ∷ num (hasEcc flags) ∷ []

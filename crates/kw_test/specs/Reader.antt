@@ -32,7 +32,7 @@ abbrev pub entryWith : ℕ → ℕ → ℕ → ℕ → ℕ → Entry
 entryWith kind flags offset words covers =
     record { kind = kind; flags = flags; offset = offset; words = words; covers = covers; reserved = 0 }
 
--- one with this offset and length: no place depends on the rest
+-- an entry with this offset and length, 0 elsewhere: no place depends on its other fields
 abbrev pub entryAt : ℕ → ℕ → Entry
 entryAt offset words = entryWith 0 0 offset words 0
 

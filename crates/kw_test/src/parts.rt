@@ -26,7 +26,7 @@ pub(crate) fn part_numbers(part: &[u8]) -> [u64; 2]
     [part.len() as u64, crc::crc32(part) as u64]
 }
 
-// No place depends on the other fields.
+// A region with this offset and length, 0 elsewhere: no place depends on its other fields.
 fn region_of(word_offset: u32, word_length: u32) -> Region
     ensures { λ r. ⌜ r ≡ regionOf (entryAt «word_offset» «word_length») ⌝ }
 {

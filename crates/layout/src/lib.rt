@@ -28,7 +28,7 @@ pub const DIRECTORY_OFFSET: usize = PROLOGUE_BYTES * COPIES;
 
 pub const MAX_REGIONS: usize = 1024;
 
-// The longest image that the writer makes.
+// The longest image that the writer makes and the command takes.
 pub const MAX_IMAGE_BYTES: usize = 8_388_608;
 
 // The longest input that the programs look at.

@@ -28,7 +28,7 @@ copyVote base k j x =
     let v = maj3 (at x (base + j)) (at x (base + k + j)) (at x (base + 2 * k + j)) in
     set (set (set x (base + j) v) (base + k + j) v) (base + 2 * k + j) v
 
--- the m bytes from j on
+-- the votes on the m bytes from byte j on, each written to its three places
 unfoldable pub copyVotes : ℕ → ℕ → ℕ → ℕ → List ℕ → List ℕ
 copyVotes base k zero j x = x
 copyVotes base k (suc m) j x = copyVotes base k m (suc j) (copyVote base k j x)
@@ -46,7 +46,7 @@ over done out = done ++ drop (length done) out
 
 -- ---- a search over entries
 
--- one was found
+-- whether a search found an entry
 abbrev pub isSome : Option ℕ → Bool
 isSome none = false
 isSome (some j) = true

@@ -1,4 +1,4 @@
--- What the command says of an image that it refuses, and of a file that it cannot read or write. (FORMAT 14)
+-- What the command says, in words, of an image that is refused or too long. (FORMAT 14)
 use mathlib.Core.Bool.{cond}
 use mathlib.Core.List.{List, [], _∷_, _++_}
 use Prim.Native.Nat.{ℕ}

@@ -1,4 +1,4 @@
-// Sentences on what is refused, and the names that the system's reasons follow. (FORMAT 14)
+// The line in words on an image that is refused or too long. (FORMAT 14)
 ghost use mathlib.Core.Path.{_≡_};
 ghost use mathlib.Core.List.{[], _∷_, _++_};
 ghost use Prim.Native.Nat.{_+_, _≤_};

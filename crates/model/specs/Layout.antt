@@ -106,10 +106,11 @@ start e = 8 * e .offset
 abbrev pub end : Entry → ℕ
 end e = 8 * (e .offset + e .words)
 
--- a byte count rounded up to words, and a header's length; nothing where 64 bits do not hold n + 7, or that length
+-- a byte count in words, rounded up; nothing where 64 bits do not hold n + 7
 unfoldable pub wordsFor : ℕ → Option ℕ
 wordsFor n = given (ltb (n + 7) (2 ^ 64)) ((n + 7) / 8)
 
+-- a header's length; nothing where 64 bits do not hold it
 unfoldable pub headerBytes : ℕ → Option ℕ
 headerBytes n = given (ltb (headerLength n) (2 ^ 64)) (headerLength n)
 

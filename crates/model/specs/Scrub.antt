@@ -31,12 +31,12 @@ scrubWord p s =
     let c = classAt (s .image) p in
     record { image = storedWord c p (s .image); met = c ∷ s .met; visited = s .visited }
 
--- words ascending
+-- the words of a list, scrubbed one after the other
 unfoldable pub scrubWords : List Codeword → State → State
 scrubWords [] s = s
 scrubWords (p ∷ ps) s = scrubWords ps (scrubWord p s)
 
--- each visit's words; one visit makes for a report
+-- the words of each visit, scrubbed; with one visit there is a report
 unfoldable pub scrubVisits : List Visit → State → State
 scrubVisits [] s = s
 scrubVisits (v ∷ vs) s =

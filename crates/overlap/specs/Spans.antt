@@ -9,7 +9,7 @@ use Rattle.model.specs.Bytes.{at}
 use Rattle.model.specs.Layout.{Entry}
 use Rattle.model.specs.Views.{nth}
 
--- a last word of more bits becomes the largest number of 32; 0 for an empty entry
+-- the last word of an entry, at most 2^32 - 1; 0 for an empty entry
 unfoldable pub lastWord : Entry → ℕ
 lastWord e = cond (eqb (e .words) 0) 0 (cond (ltb (e .offset + e .words - 1) 4294967295) (e .offset + e .words - 1) 4294967295)
 

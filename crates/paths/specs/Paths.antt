@@ -1,4 +1,4 @@
--- The names of the files that the command writes: where a link leads, and the file that is written beside another. (FORMAT 14)
+-- The names of the files that the command writes (where a link leads, and the file that is written beside another), and a name as it is shown. (FORMAT 14)
 use mathlib.Core.Bool.{Bool, cond}
 use mathlib.Core.List.{List, [], _∷_, _++_}
 use Prim.Native.Nat.{ℕ, suc}
@@ -17,7 +17,7 @@ folderLength path = behindSlash path 0 0
 abbrev pub folder : List ℕ → List ℕ
 folder path = take (folderLength path) path
 
--- a name is at most 4,096 bytes; of longer ones no name is made
+-- longer than 4,096 bytes, which no argument is
 abbrev pub longerThanNames : List ℕ → Bool
 longerThanNames path = ltb 4096 (length path)
 

@@ -35,7 +35,7 @@ pub record Low (xs : List ℕ) : Type 0 where
 abbrev pub keptRows : List ℕ → ℕ → List ℕ
 keptRows plan n = take n (drop 512 plan)
 
--- n rows are kept, of so many regions
+-- the plan keeps n rows, whose image has so many regions
 pub record Kept (plan : List ℕ) (n count : ℕ) : Type 0 where
   pub few : n ≤ 1024
   pub counted : count ≡ regions (rowsOf (keptRows plan n))

@@ -25,11 +25,11 @@ noTotals = record { any = false; report = noReport }
 abbrev pub tallied : Bool → List Class → Totals
 tallied v ks = record { any = v; report = report ks }
 
--- a region more, which was visited or not
+-- the totals, with whether a further region was visited
 abbrev pub marked : Totals → Bool → Totals
 marked t v = record { any = t .any || v; report = t .report }
 
--- the words of a report more
+-- the totals, with the counts of a report added
 abbrev pub withReport : Totals → Report → Totals
 withReport t r = record { any = t .any; report = plus (t .report) r }
 
@@ -39,15 +39,15 @@ reportOn (cleanWord w) = record { words = 1; corrected = 0; uncorrectable = 0 }
 reportOn (correctedWord w) = record { words = 1; corrected = 1; uncorrectable = 0 }
 reportOn uncorrectableWord = record { words = 1; corrected = 0; uncorrectable = 1 }
 
--- one word more
+-- the totals, with one word added
 abbrev pub counted : Totals → Outcome → Totals
 counted t o = withReport t (reportOn o)
 
--- as many words more as there are classes
+-- the totals, with a word added for each class
 abbrev pub withClasses : Totals → List Class → Totals
 withClasses t ks = withReport t (report ks)
 
--- some visits of x more
+-- the totals, with the words of some visits of x added
 unfoldable pub withVisits : List ℕ → List Visit → Totals → Totals
 withVisits x vs t = withClasses (marked t (anyOf vs)) (classesAt x (codewordsIn vs))
 
@@ -61,7 +61,7 @@ pub record Bounded (r : Report) : Type 0 where
   pub corrected : r .corrected ≤ r .words
   pub uncorrectable : r .uncorrectable ≤ r .words
 
--- room for m words more
+-- m words can still be counted below 2^60
 pub record Room (m : ℕ) (r : Report) : Type 0 where
   pub words : r .words + m ≤ 2 ^ 60
   pub counts : Bounded r

@@ -1,4 +1,4 @@
-// Which words of an entry are examined: no plane, flagged 2, with a plane, and a check byte for each word. (FORMAT 7)
+// The words of an entry that a scan examines: those of a protected region that have a check byte in its plane. (FORMAT 7)
 ghost use mathlib.Core.Path.{_≡_};
 ghost use Prim.Native.Nat as nat;
 ghost use lib.ListN.{length};
@@ -40,7 +40,7 @@ fn min(a: usize, b: usize) -> usize
     if a < b { a } else { b }
 }
 
-// The run of a region, whatever its flags.
+// The words of a region that have a check byte in its plane, whatever its flags.
 pub(crate) fn run_with_plane(bytes: &[u8], header: Header, region: Region) -> ProtectedRun
     ensures { λ r. ⌜ IsRun (now (bytes .entry)) (visitWith (asEntry region) (planeOf (length (now (bytes .entry))) (entriesFor (header .«region_count») (now (bytes .entry))) (asEntry region))) r ⌝ }
 {

@@ -10,7 +10,7 @@ use Rattle.error.specs.declared.Refusal.the-variants.{Truncated, BadMagic, Fore
 abbrev pub around : String → ℕ → String → List ℕ
 around before n after = text before ++ (decimal n ++ text after)
 
--- the last five are the writer's and the tables', and refuse no image
+-- no image is refused with the last five: record tables give BadRecordStride, nothing gives Overflow, the writer gives the others
 unfoldable pub sentence : Refusal → List ℕ
 sentence Truncated = text "the image ends inside its header (Truncated)"
 sentence BadMagic = text "not a keleusma-wire image (BadMagic)"

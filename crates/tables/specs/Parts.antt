@@ -13,18 +13,20 @@ pub record PartAt (lent r : RefT (List ℕ)) (n : ℕ) (xs : List ℕ) : Type 0 
   pub offset : r .ptr .1 ≡ lent .ptr .1 + n
   pub holds : now r ≡ xs
 
--- how far in a part starts; where there is none, the empty slice that stands for it starts with the bytes
+-- the offset at which the part in a range starts; the empty slice that stands for no part starts with the bytes
 abbrev pub startIn : Option Range → ℕ
 startIn none = 0
 startIn (some r) = r .first
 
+-- the offset at which the part in a span starts; 0 where it is refused
 abbrev pub startOf : Span → ℕ
 startOf (span r) = r .first
 startOf (noSpan n d) = 0
 
--- `r` is the very part of `lent` in a range; of a span
+-- `r` is the very part of `lent` that a range names, and the empty slice at its front for none
 abbrev pub VeryPartIn : RefT (List ℕ) → RefT (List ℕ) → Option Range → Type 0
 VeryPartIn lent r p = PartAt lent r (startIn p) (partIn (now lent) p)
 
+-- `r` is the very part of `lent` that a span names, and the empty slice at its front where it is refused
 abbrev pub VeryPartOf : RefT (List ℕ) → RefT (List ℕ) → Span → Type 0
 VeryPartOf lent r s = PartAt lent r (startOf s) (partOf (now lent) s)

@@ -101,7 +101,7 @@ pub fn is_table(bytes: &[u8], stride: usize) -> bool
     bytes.len() % stride == 0
 }
 
-// A stride of 0 has no records.
+// How many records a table has; none at stride 0.
 pub fn record_count(bytes: &[u8], stride: usize) -> usize
     ensures { λ r. ⌜ r ≡ recordCount (length (now (bytes .entry))) stride ⌝ }
 {
@@ -147,7 +147,7 @@ pub fn range_is_forward(bytes: &[u8], stride: usize, at: usize, first: u32, coun
     first as usize + count as usize <= record_count(bytes, stride)
 }
 
-// Any offset and length that end inside a pool of len bytes.
+// Where an offset and a length lie in a pool of len bytes, or nothing where they end past it.
 pub fn pool_place(len: usize, offset: u32, size: u32) -> Place
     ensures { λ r. ⌜ asPlace r ≡ poolRange len offset size ⌝ }
 {

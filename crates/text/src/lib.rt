@@ -31,7 +31,7 @@ pub struct Printed {
     pub line: usize,
 }
 
-// Mends an image in place, all of which is then to be written, or refuses it and none is; the line that says so goes to the start of out.
+// Mends an image in place, and puts the line on it at the start of out. A mended image is to be written whole, any other not at all.
 pub fn scrub(image: &mut [u8], out: &mut [u8; 128]) -> Printed
     ensures is { λ r. ⌜ r .line ≡ length (scrubText (now (image .entry))) ⌝ }
     ensures says { λ _. ⌜ now (out .exit) ≡ sets (now (out .entry)) 0 (scrubText (now (image .entry))) ⌝ }

@@ -48,7 +48,7 @@ fn put_first(out: &mut [u8], at: usize, found: Found) -> usize
     }
 }
 
-// The second, with its prefix and its line feed.
+// The report's second line, with the file's name before it where there are several, and its line feed.
 fn put_second(out: &mut [u8], at: usize, name: &[u8], several: bool, report: ScanResult) -> usize
     requires { ⌜ at + length (now name) + 69 ≤ length (now out) ⌝ }
     ensures is { λ r. ⌜ Put (now (out .entry)) at (lines ((prefix (now (name .entry)) several ++ eccLine (asScan report)) ∷ [])) r (now (out .exit)) ⌝ }
@@ -91,7 +91,7 @@ pub fn file_report(name: &[u8], several: bool, found: Found, out: &mut [u8; 8448
     put_report(out, name, several, found)
 }
 
-// What scrub says of a mended image, with its line feed. The image itself is not printed here: [] stands for it.
+// The line on an image that scrub mends, refuses or finds too long. No line shows the mended bytes: [] stands for them.
 pub(crate) fn put_outcome(out: &mut [u8], outcome: Outcome) -> usize
     requires { ⌜ 50 ≤ length (now out) ⌝ }
     ensures is { λ r. ⌜ Put (now (out .entry)) 0 (lines (lineOf (asOutcome outcome []) ∷ [])) r (now (out .exit)) ⌝ }

@@ -1,4 +1,4 @@
--- What mend leaves, through the command scrub. Assumes nothing.
+-- What mend leaves, through the program scrub. Assumes nothing.
 use mathlib.Core.Path.{_≡_, sym, ap, _∙_, subst}
 use mathlib.Core.Bool.{Bool}
 use mathlib.Core.List.{List, [], _∷_}

@@ -1,5 +1,5 @@
 -- Every demand as a statement: the user's sentence, what it says of the definitions or of a run of a function (specs/Runs.antt), and the work that proves it. Assumes nothing.
--- Those about write, mend, scrub and the command stand again, of the functions' own answers and bytes, in Functions.antt (of `mend-refuses-exactly` the part about 12).
+-- Those about write, mend, scrub and the program scrub stand again, of the functions' own answers and bytes, in Functions.antt (of `mend-refuses-exactly` the part about 12).
 --
 --   1. Every input gets an answer. Bad images, plans and sizes are refused by number, and every byte of a lent buffer after a refusal is prescribed.
 --      Only the Rust's own scrub may refuse after writing, and then exactly as the Rust does.
@@ -184,7 +184,7 @@ pub restores : (rs : List plan.Row) (payload : List ℕ) (room : ℕ) (w d : Lis
     → mend d ≡ mended w (scan d) (changed d w) (ltb 0 (planes rs))
 restores rs payload room w d written bytes damage = restored rs payload room w written bytes d damage
 
--- The same of the command: an image of at most 65,536 bytes, so damaged, is written by scrub as the writer's exact bytes (`scrubImage`), with the number of bytes that differed.
+-- The same of the program scrub: an image of at most 65,536 bytes, so damaged, is written by scrub as the writer's exact bytes (`scrubImage`), with the number of bytes that differed.
 pub command-restores : (rs : List plan.Row) (payload : List ℕ) (room : ℕ) (w d : List ℕ)
     → write rs payload room ≡ image w → Bytes payload → Damaged 1 w d → length w ≤ 65536
     → (scrubImage d ≡ w) × (scrubText d ≡ lines (storedLine (changed d w) ∷ []))

@@ -44,7 +44,7 @@ module _ (rows : List Row) (payload out : List ℕ) (n : ℕ) (after : List ℕ)
       run.mends-to d r y _ mends
       (demands.restores (asPlan rows) payload (length out) (take n after) d (run.written rows payload out n after wrote) bytes damage)
 
-  -- The command writes the writer's exact bytes, and says how many differed.
+  -- The program scrub writes the writer's exact bytes, and says how many differed.
   pub command-restores : (d buffer : List ℕ) → Damaged 1 (take n after) d → length (take n after) ≤ 65536 → (r : Printed) (y line : List ℕ) → Prints d buffer r y line
       → (take (r .image) y ≡ take n after) × (line ≡ sets buffer 0 (lines (storedLine (changed d (take n after)) ∷ [])))
   command-restores d buffer damage short r y line scrubs =

@@ -34,7 +34,7 @@ pub record ScrubsTo (x : List ℕ) (r : ScanResult) (y : List ℕ) : Type 0 wher
   pub answer : asScan r ≡ scrub x .report
   pub leaves : y ≡ scrub x .image
 
--- text::scrub of x, with a buffer for its line, as the command calls it: it answered r and left y and `line`
+-- text::scrub of x, with a buffer for its line, as the program scrub calls it: it answered r and left y and `line`
 pub record Prints (x buffer : List ℕ) (r : Printed) (y line : List ℕ) : Type 0 where
   pub written : take (r .image) y ≡ scrubImage x
   pub said : line ≡ sets buffer 0 (scrubText x)

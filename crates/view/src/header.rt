@@ -176,7 +176,7 @@ fn voted_end(bytes: &[u8], n: usize, i: usize) -> usize
     WORD * (offset as usize + words as usize)
 }
 
-// It does not stop at the first hit: a loop that always runs to its end is compiled to wide compares.
+// Whether a kind is among others. The loop always runs to its end, which is compiled to wide compares.
 fn is_among(kind: u16, kinds: &[u16]) -> bool
     ensures { λ r. ⌜ r ≡ elem kind (now (kinds .entry)) ⌝ }
 {

@@ -1,4 +1,4 @@
--- Steps of code, for the contracts of building blocks that the writer calls; no statement of the demands speaks of them. The directory of rows that are kept as numbers. (FORMAT 9)
+-- Steps of code, for private contracts; no statement of the demands speaks of them. The directory of rows that are kept as numbers. (FORMAT 9)
 use mathlib.Core.List.{List, _++_}
 use Prim.Native.Nat.{ℕ}
 use Rattle.model.specs.Writer.{rowEntries, planeEntries, entriesBytes}

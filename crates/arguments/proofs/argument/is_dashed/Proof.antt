@@ -7,11 +7,11 @@ use Rattle.arguments.proofs.argument.is_dashed.Tie as tie
 
 returns : tie.Need-returns
 unfolding dashed
-returns c = simp (lt-ltb _ _ (c .before .if1 .taken))
+returns c = simp (lt-ltb 1 _ (c .before .if1 .taken))
 
 returns-2 : tie.Need-returns-2
 unfolding dashed
-returns-2 c = simp (le-ltb _ _ (c .if1 .left))
+returns-2 c = simp (le-ltb 1 _ (c .if1 .left))
 
 pub is-dashed-spec : {M : Type 1} → statement M
 is-dashed-spec =
