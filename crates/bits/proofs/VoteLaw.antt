@@ -5,10 +5,10 @@ use Prim.Native.Nat.{ℕ, _^_, _≤_, _<_}
 use native.Mathlib.Omega.{arith}
 use lib.Bits.{bitAnd, bitOr}
 use Rattle.bits.specs.Bit.{bit}
-use Rattle.bits.specs.Vote.{most, Majority, wrong}
+use Rattle.bits.specs.Vote.{majority3, Majority, wrong}
 use Rattle.bits.proofs.BitLaw.{bit-and, bit-or, bit-ext, bit-ext-below}
 
-outvoted-bit : (v x y z : Bool) → wrong v x y z ≤ 1 → most x y z ≡ v
+outvoted-bit : (v x y z : Bool) → wrong v x y z ≤ 1 → majority3 x y z ≡ v
 outvoted-bit true true true z h = refl
 outvoted-bit true true false true h = refl
 outvoted-bit true true false false h = absurd (omega arith)
@@ -30,7 +30,7 @@ pub outvoted : (k a b c r v : ℕ) → r < 2 ^ k → v < 2 ^ k → Majority a b 
 outvoted k a b c r v hr hv m f =
     bit-ext-below k r v hr hv (λ i h. m .at i ∙ outvoted-bit (bit v i) (bit a i) (bit b i) (bit c i) (f i h))
 
-formula : (x y z : Bool) → ((x && y) || (x && z)) || (y && z) ≡ most x y z
+formula : (x y z : Bool) → ((x && y) || (x && z)) || (y && z) ≡ majority3 x y z
 formula true true z = refl
 formula true false true = refl
 formula true false false = refl

@@ -5,15 +5,15 @@ use Prim.Native.Nat.{ℕ, _+_}
 use Rattle.bits.specs.Bit.{bit, num, xorB}
 
 -- what two or more of three say
-abbrev pub most : Bool → Bool → Bool → Bool
-most true true z = true
-most true false z = z
-most false true z = z
-most false false z = false
+abbrev pub majority3 : Bool → Bool → Bool → Bool
+majority3 true true z = true
+majority3 true false z = z
+majority3 false true z = z
+majority3 false false z = false
 
 -- each bit of r is what most of a, b and c have there
 pub record Majority (a b c r : ℕ) : Type 0 where
-  pub at : (i : ℕ) → bit r i ≡ most (bit a i) (bit b i) (bit c i)
+  pub at : (i : ℕ) → bit r i ≡ majority3 (bit a i) (bit b i) (bit c i)
 
 -- how many of three differ from v
 abbrev pub wrong : Bool → Bool → Bool → Bool → ℕ

@@ -1,4 +1,4 @@
-// What is found in an image of at most `most` bytes, and what mend makes of one. (FORMAT 11)
+// What is found in an image of at most `limit` bytes, and what mend makes of one. (FORMAT 11)
 ghost use mathlib.Core.Path.{_≡_};
 ghost use Rattle.model.specs.Programs as model;
 ghost use Rattle.scan.specs.Answers.{asScan};
@@ -21,10 +21,10 @@ pub enum Found {
     Image(Findings),
 }
 
-pub fn look(image: &[u8], most: usize) -> Found
-    ensures { λ r. ⌜ asFound r ≡ model.look most (now (image .entry)) ⌝ }
+pub fn look(image: &[u8], limit: usize) -> Found
+    ensures { λ r. ⌜ asFound r ≡ model.look limit (now (image .entry)) ⌝ }
 {
-    if image.len() > most {
+    if image.len() > limit {
         return Found::TooLong;
     }
     match view::parse(image) {
@@ -47,11 +47,11 @@ pub enum Outcome {
 }
 
 // Mends an image in place. One that is too long, or refused, is left as it was.
-pub fn mend_within(image: &mut [u8], most: usize) -> Outcome
-    ensures is { λ r. ⌜ asOutcome r (now (image .exit)) ≡ model.mendWithin most (now (image .entry)) ⌝ }
-    ensures leaves { λ _. ⌜ now (image .exit) ≡ leftWithin (model.mendWithin most (now (image .entry))) (now (image .entry)) ⌝ }
+pub fn mend_within(image: &mut [u8], limit: usize) -> Outcome
+    ensures is { λ r. ⌜ asOutcome r (now (image .exit)) ≡ model.mendWithin limit (now (image .entry)) ⌝ }
+    ensures leaves { λ _. ⌜ now (image .exit) ≡ leftWithin (model.mendWithin limit (now (image .entry))) (now (image .entry)) ⌝ }
 {
-    if image.len() > most {
+    if image.len() > limit {
         return Outcome::TooLong;
     }
     match mending::mend(image) {

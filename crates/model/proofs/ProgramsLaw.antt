@@ -11,23 +11,23 @@ use Rattle.model.specs.Scan.{scan}
 use Rattle.model.specs.Mend.{MendAnswer, mend}
 use Rattle.model.specs.Programs.{tooLong, foundIn, look, lines, mendWithin, imageOut, lineOf, scrubImage, scrubLine, scrubText}
 
-module _ (most : ℕ) (x : List ℕ) (long : most < length x) where
-  pub look-long : tooLong ≡ look most x
+module _ (limit : ℕ) (x : List ℕ) (long : limit < length x) where
+  pub look-long : tooLong ≡ look limit x
   unfolding look
-  look-long = sym (ap (λ (t : Bool). cond t tooLong (foundIn (parse x) (scan x))) (lt-ltb most (length x) long))
+  look-long = sym (ap (λ (t : Bool). cond t tooLong (foundIn (parse x) (scan x))) (lt-ltb limit (length x) long))
 
-  pub mend-long : none ≡ mendWithin most x
+  pub mend-long : none ≡ mendWithin limit x
   unfolding mendWithin
-  mend-long = sym (ap (λ (t : Bool). cond t none (some (mend x))) (lt-ltb most (length x) long))
+  mend-long = sym (ap (λ (t : Bool). cond t none (some (mend x))) (lt-ltb limit (length x) long))
 
-module _ (most : ℕ) (x : List ℕ) (short : length x ≤ most) where
-  pub look-short : foundIn (parse x) (scan x) ≡ look most x
+module _ (limit : ℕ) (x : List ℕ) (short : length x ≤ limit) where
+  pub look-short : foundIn (parse x) (scan x) ≡ look limit x
   unfolding look
-  look-short = sym (ap (λ (t : Bool). cond t tooLong (foundIn (parse x) (scan x))) (le-ltb most (length x) short))
+  look-short = sym (ap (λ (t : Bool). cond t tooLong (foundIn (parse x) (scan x))) (le-ltb limit (length x) short))
 
-  pub mend-short : some (mend x) ≡ mendWithin most x
+  pub mend-short : some (mend x) ≡ mendWithin limit x
   unfolding mendWithin
-  mend-short = sym (ap (λ (t : Bool). cond t none (some (mend x))) (le-ltb most (length x) short))
+  mend-short = sym (ap (λ (t : Bool). cond t none (some (mend x))) (le-ltb limit (length x) short))
 
 pub image-short : (x : List ℕ) → length x ≤ 65536 → imageOut (some (mend x)) ≡ scrubImage x
 unfolding scrubImage

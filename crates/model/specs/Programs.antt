@@ -21,7 +21,7 @@ digit d = (48 + d) ∷ []
 -- n in decimal, of at most so many digits
 unfoldable pub digits : ℕ → ℕ → List ℕ
 digits zero n = []
-digits (suc most) n = cond (ltb n 10) (digit n) (digits most (n / 10) ++ digit (n % 10))
+digits (suc places) n = cond (ltb n 10) (digit n) (digits places (n / 10) ++ digit (n % 10))
 
 -- n has at most n + 1 digits
 unfoldable pub decimal : ℕ → List ℕ
@@ -74,7 +74,7 @@ foundIn (accepted h) s = image (h .regions) (h .prologueDisagreed || h .director
 foundIn (refused n d) s = refusedImage n d
 
 unfoldable pub look : ℕ → List ℕ → Found
-look most x = cond (ltb most (length x)) tooLong (foundIn (parse x) (scan x))
+look limit x = cond (ltb limit (length x)) tooLong (foundIn (parse x) (scan x))
 
 -- ---- report: to standard output
 
@@ -90,7 +90,7 @@ reportText x = lines (reportLines (look 65536 x))
 
 -- mend's answer, and none for an image that is too long
 unfoldable pub mendWithin : ℕ → List ℕ → Option MendAnswer
-mendWithin most x = cond (ltb most (length x)) none (some (mend x))
+mendWithin limit x = cond (ltb limit (length x)) none (some (mend x))
 
 abbrev pub imageOut : Option MendAnswer → List ℕ
 imageOut none = []

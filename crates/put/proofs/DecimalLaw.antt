@@ -50,18 +50,18 @@ u64-digits n k h f = few-digits 20 n k (lit< tt) (omega (arith, h)) f
 glyph-digit : (d : ℕ) → d < 10 → glyph d ∷ [] ≡ digit d
 glyph-digit d h = ap (λ (t : Bool). cond t (48 + d) (87 + d) ∷ []) (lt-ltb d 10 h)
 
--- of at most `most` digits, where the number itself is below it
-spelled : (most k n : ℕ) → n < most → Fewest 10 1 n k → kit.digits 10 k n ≡ digits most n
+-- of at most `places` digits, where the number itself is below it
+spelled : (places k n : ℕ) → n < places → Fewest 10 1 n k → kit.digits 10 k n ≡ digits places n
 unfolding digits
-spelled most zero n h f = absurd (omega (arith, f .0))
+spelled places zero n h f = absurd (omega (arith, f .0))
 spelled zero (suc k) n h f = absurd (omega arith)
-spelled (suc most) (suc zero) n h f =
+spelled (suc places) (suc zero) n h f =
     let m : n % 10 ≡ n = omega (arith, f .1) in
     ap (λ (d : ℕ). glyph d ∷ []) m ∙ glyph-digit n (f .1)
-    ∙ sym (ap (λ (t : Bool). cond t (digit n) (digits most (n / 10) ++ digit (n % 10))) (lt-ltb n 10 (f .1)))
-spelled (suc most) (suc (suc j)) n h f =
-    ap₂ (λ (a b : List ℕ). a ++ b) (spelled most (suc j) (n / 10) (omega (arith, ten f)) (fewer f)) (glyph-digit (n % 10) (omega arith))
-    ∙ sym (ap (λ (t : Bool). cond t (digit n) (digits most (n / 10) ++ digit (n % 10))) (le-ltb n 10 (ten f)))
+    ∙ sym (ap (λ (t : Bool). cond t (digit n) (digits places (n / 10) ++ digit (n % 10))) (lt-ltb n 10 (f .1)))
+spelled (suc places) (suc (suc j)) n h f =
+    ap₂ (λ (a b : List ℕ). a ++ b) (spelled places (suc j) (n / 10) (omega (arith, ten f)) (fewer f)) (glyph-digit (n % 10) (omega arith))
+    ∙ sym (ap (λ (t : Bool). cond t (digit n) (digits places (n / 10) ++ digit (n % 10))) (le-ltb n 10 (ten f)))
 
 pub decimal-is : (k n : ℕ) → Fewest 10 1 n k → kit.digits 10 k n ≡ decimal n
 unfolding decimal

@@ -38,11 +38,11 @@ fn scan_run(table: &CheckTable, bytes: &[u8], run: ProtectedRun) -> EccReport
     requires { ⌜ Fits (now bytes) run × IsCheckTable (now table) ⌝ }
     ensures { λ r. ⌜ asReport r ≡ report (classesAt (now (bytes .entry)) (codewordsOf run)) ⌝ }
 {
-    let from = 8 * run.word;
-    let to = from + 8 * run.words;
-    let first = run.check;
-    let past = first + run.words;
-    plane_scan_with(table, &bytes[first..past], &bytes[from..to])
+    let start = 8 * run.word;
+    let end = start + 8 * run.words;
+    let check = run.check;
+    let check_end = check + run.words;
+    plane_scan_with(table, &bytes[check..check_end], &bytes[start..end])
 }
 
 // Adds the words of a run to the tally.

@@ -63,7 +63,7 @@ repaired w w′ c′ n (two i j hi hj d) = inr (refl, double-flip w i j hi hj d)
 
 -- ---- an image in order, damaged
 
-module _ (most : ℕ) (w d : List ℕ) (g : InOrder w) (a : Damaged most w d) where
+module _ (limit : ℕ) (w d : List ℕ) (g : InOrder w) (a : Damaged limit w d) where
   voted-back : (base k : ℕ) (v : List ℕ) → v ≡ voted base k w → length v ≡ k → Copies w base k v → OneCopyOff w d base k → voted base k d ≡ v
   voted-back base k v e l c o = voted-damaged w d base k v (subst Bytes (sym e) (bytes-voted base k w (g .bytes))) (a .bytes) l c o
 
@@ -78,8 +78,8 @@ module _ (most : ℕ) (w d : List ℕ) (g : InOrder w) (a : Damaged most w d) wh
   damaged-codewords = same-codewords d w (a .size) damaged-header
 
   -- with at most two bits off, a protected word is repaired, or found uncorrectable
-  pub each : (q c : ℕ) → Protected w q c → most ≤ 2
-      → Right (wordAt w q) (at w c) (wordAt d q) (at d c) ⊎ ((2 ≤ most) × (Uncorrectable d q c))
+  pub each : (q c : ℕ) → Protected w q c → limit ≤ 2
+      → Right (wordAt w q) (at w c) (wordAt d q) (at d c) ⊎ ((2 ≤ limit) × (Uncorrectable d q c))
   unfolding Right
   each q c m h =
       go (rw e at (a .words q c m))
@@ -96,24 +96,24 @@ module _ (most : ℕ) (w d : List ℕ) (g : InOrder w) (a : Damaged most w d) wh
       n : ℕ
       n = apart (wordAt d q) (at d c) W (checkOf W)
 
-      go : n ≤ most → Right W (checkOf W) (wordAt d q) (at d c) ⊎ ((n ≡ 2) × (Uncorrectable d q c))
-          → Right W (at w c) (wordAt d q) (at d c) ⊎ ((2 ≤ most) × (Uncorrectable d q c))
+      go : n ≤ limit → Right W (checkOf W) (wordAt d q) (at d c) ⊎ ((n ≡ 2) × (Uncorrectable d q c))
+          → Right W (at w c) (wordAt d q) (at d c) ⊎ ((2 ≤ limit) × (Uncorrectable d q c))
       go l (inl r) = inl (r .0, e ∙ r .1, r .2)
       go l (inr r) = inr (let z = r .0 in omega arith, r .1)
 
-  module _ (y : List ℕ) (r : MendRule d y) (h : most ≤ 2) where
+  module _ (y : List ℕ) (r : MendRule d y) (h : limit ≤ 2) where
     -- mended, every byte outside the uncorrectable words and their check bytes is w's
     pub outside : (p : ℕ)
-        → ((q c : ℕ) → Protected w q c → 2 ≤ most → Uncorrectable d q c → (q ≡ p / 8 → ⊥) × (c ≡ p → ⊥)) → at y p ≡ at w p
+        → ((q c : ℕ) → Protected w q c → 2 ≤ limit → Uncorrectable d q c → (q ≡ p / 8 → ⊥) × (c ≡ p → ⊥)) → at y p ≡ at w p
     unfolding Right
     outside p f = go (decLt p (headerLength (count w)))
       where
-        word : (q c : ℕ) → Protected w q c → q ≡ p / 8 → Right (wordAt w q) (at w c) (wordAt d q) (at d c) ⊎ ((2 ≤ most) × (Uncorrectable d q c))
+        word : (q c : ℕ) → Protected w q c → q ≡ p / 8 → Right (wordAt w q) (at w c) (wordAt d q) (at d c) ⊎ ((2 ≤ limit) × (Uncorrectable d q c))
             → at y p ≡ at w p
         word q c m e (inl k) = same-in-word y w q p (r .bytes) (g .bytes) (r .words q c (subst (Among q c) (sym damaged-codewords) m) ∙ sym (k .0)) e
         word q c m e (inr k) = absurd (f q c m (k .0) (k .1) .0 e)
 
-        check : (q c : ℕ) → Protected w q c → c ≡ p → Right (wordAt w q) (at w c) (wordAt d q) (at d c) ⊎ ((2 ≤ most) × (Uncorrectable d q c))
+        check : (q c : ℕ) → Protected w q c → c ≡ p → Right (wordAt w q) (at w c) (wordAt d q) (at d c) ⊎ ((2 ≤ limit) × (Uncorrectable d q c))
             → at y p ≡ at w p
         check q c m e (inl k) = subst (λ (n : ℕ). at y n ≡ at w n) e (r .checks q c (subst (Among q c) (sym damaged-codewords) m) ∙ sym (k .1))
         check q c m e (inr k) = absurd (f q c m (k .0) (k .1) .1 e)
@@ -136,7 +136,7 @@ module _ (most : ℕ) (w d : List ℕ) (g : InOrder w) (a : Damaged most w d) wh
         go (no n) = rest (omega arith) (classify (codewords w) p)
 
     -- so where none is uncorrectable, it is w
-    pub wholly : ((q c : ℕ) → Protected w q c → 2 ≤ most → Uncorrectable d q c → ⊥) → y ≡ w
+    pub wholly : ((q c : ℕ) → Protected w q c → 2 ≤ limit → Uncorrectable d q c → ⊥) → y ≡ w
     wholly f =
         ext-getD 0 y w (r .size ∙ a .size)
         (λ p l. outside p (λ q c m i e. ((λ u. f q c m i e), (λ u. f q c m i e))))

@@ -34,9 +34,9 @@ module _ (rs : List Row) (payload : List ℕ) (room : ℕ) (w : List ℕ) (h : w
   pub written-fine : mendVerdict w ≡ fine
   written-fine = let r = wrote rs payload room w h in subst (λ (x : List ℕ). mendVerdict x ≡ fine) (r .is) (mend-fine rs payload (r .plan))
 
-  module _ (most : ℕ) (d : List ℕ) (a : Damaged most w d) where
+  module _ (limit : ℕ) (d : List ℕ) (a : Damaged limit w d) where
     damaged-fine : mendVerdict d ≡ fine
-    damaged-fine = same-verdict d w (a .size) (damaged-header most w d written-order a) ∙ written-fine
+    damaged-fine = same-verdict d w (a .size) (damaged-header limit w d written-order a) ∙ written-fine
 
     rule : MendRule d (mendBytes d)
     rule = meets-rule d damaged-fine (a .bytes)

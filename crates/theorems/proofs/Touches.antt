@@ -10,7 +10,7 @@ use borrow.Author.Tests.{lt-ltb, le-ltb}
 use lib.Dec.{ltb, lit<}
 use lib.Bits.{bitXor}
 use Rattle.bits.specs.Bit.{bit}
-use Rattle.bits.specs.Vote.{most}
+use Rattle.bits.specs.Vote.{majority3}
 use Rattle.bits.proofs.BitLaw.{bit-ext-below}
 use Rattle.model.specs.Bytes.{at, wordAt, Bytes}
 use Rattle.model.specs.Layout.{voted, prologue, count, headerLength, directoryBytesOf, directoryBytes, header}
@@ -49,7 +49,7 @@ differ : (a b : ℕ) → a < 256 → b < 256 → (a ≡ b → ⊥) → Differ a 
 differ a b ha hb n = search-bit 8 a b (omega arith) (λ f. n (bit-ext-below 8 a b ha hb f))
 
 -- a bit that differs from the vote stands against two that agree
-others : (a b c : Bool) → (a ≡ most a b c → ⊥) → (b ≡ c) × (a ≡ b → ⊥)
+others : (a b c : Bool) → (a ≡ majority3 a b c → ⊥) → (b ≡ c) × (a ≡ b → ⊥)
 others true true c n = absurd (n refl)
 others true false true n = absurd (n refl)
 others true false false n = (refl, λ e. n e)
@@ -57,24 +57,24 @@ others false true true n = (refl, λ e. n e)
 others false true false n = absurd (n refl)
 others false false c n = absurd (n refl)
 
-most-second : (a b c : Bool) → most a b c ≡ most b a c
-most-second true true c = refl
-most-second true false c = refl
-most-second false true c = refl
-most-second false false c = refl
+majority3-second : (a b c : Bool) → majority3 a b c ≡ majority3 b a c
+majority3-second true true c = refl
+majority3-second true false c = refl
+majority3-second false true c = refl
+majority3-second false false c = refl
 
-most-third : (a b c : Bool) → most a b c ≡ most c a b
-most-third true true true = refl
-most-third true true false = refl
-most-third true false true = refl
-most-third true false false = refl
-most-third false true true = refl
-most-third false true false = refl
-most-third false false true = refl
-most-third false false false = refl
+majority3-third : (a b c : Bool) → majority3 a b c ≡ majority3 c a b
+majority3-third true true true = refl
+majority3-third true true false = refl
+majority3-third true false true = refl
+majority3-third true false false = refl
+majority3-third false true true = refl
+majority3-third false true false = refl
+majority3-third false false true = refl
+majority3-third false false false = refl
 
 -- byte p differs from v, the vote of the bytes p, a and b
-odd-one : (x : List ℕ) → Bytes x → (p a b v : ℕ) → v < 256 → ((i : ℕ) → bit v i ≡ most (bit (at x p) i) (bit (at x a) i) (bit (at x b) i))
+odd-one : (x : List ℕ) → Bytes x → (p a b v : ℕ) → v < 256 → ((i : ℕ) → bit v i ≡ majority3 (bit (at x p) i) (bit (at x a) i) (bit (at x b) i))
     → (at x p ≡ v → ⊥) → Outvoted x p a b
 odd-one x bx p a b v l f n =
     let d = differ (at x p) v (bx .small p) l n in
@@ -91,7 +91,7 @@ module _ (x y : List ℕ) (base k : ℕ) (bx : Bytes x) (c : Copies y base k (vo
     unfolding v
     low = bytes-voted base k x bx .small j
 
-    vote : (i : ℕ) → bit v i ≡ most (bit (at x (base + j)) i) (bit (at x (base + k + j)) i) (bit (at x (base + 2 * k + j)) i)
+    vote : (i : ℕ) → bit v i ≡ majority3 (bit (at x (base + j)) i) (bit (at x (base + k + j)) i) (bit (at x (base + 2 * k + j)) i)
     unfolding v
     vote i =
         ap (λ (n : ℕ). bit n i) (at-voted base k x j h)
@@ -105,13 +105,13 @@ module _ (x y : List ℕ) (base k : ℕ) (bx : Bytes x) (c : Copies y base k (vo
     unfolding v
     in-second n =
         second j h (odd-one x bx (base + k + j) (base + j) (base + 2 * k + j) v low
-        (λ i. vote i ∙ most-second (bit (at x (base + j)) i) (bit (at x (base + k + j)) i) (bit (at x (base + 2 * k + j)) i)) (λ e. n (e ∙ sym (c .second j h))))
+        (λ i. vote i ∙ majority3-second (bit (at x (base + j)) i) (bit (at x (base + k + j)) i) (bit (at x (base + 2 * k + j)) i)) (λ e. n (e ∙ sym (c .second j h))))
 
     in-third : (at x (base + 2 * k + j) ≡ at y (base + 2 * k + j) → ⊥) → CopyOff x base k (base + 2 * k + j)
     unfolding v
     in-third n =
         third j h (odd-one x bx (base + 2 * k + j) (base + j) (base + k + j) v low
-        (λ i. vote i ∙ most-third (bit (at x (base + j)) i) (bit (at x (base + k + j)) i) (bit (at x (base + 2 * k + j)) i)) (λ e. n (e ∙ sym (c .third j h))))
+        (λ i. vote i ∙ majority3-third (bit (at x (base + j)) i) (bit (at x (base + k + j)) i) (bit (at x (base + 2 * k + j)) i)) (λ e. n (e ∙ sym (c .third j h))))
 
   outvoted-in : (p : ℕ) → base ≤ p → p < base + 3 * k → (at x p ≡ at y p → ⊥) → CopyOff x base k p
   outvoted-in p a h n = go (decLt p (base + k)) (decLt p (base + 2 * k))

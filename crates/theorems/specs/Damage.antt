@@ -41,15 +41,15 @@ abbrev pub bitsOff : List ℕ → List ℕ → ℕ → ℕ → ℕ
 bitsOff w d q c = distance 64 (wordAt d q) (wordAt w q) + distance 8 (at d c) (at w c)
 
 -- demand 3 is `Damaged 1`
-pub record Damaged (most : ℕ) (w d : List ℕ) : Type 0 where
+pub record Damaged (limit : ℕ) (w d : List ℕ) : Type 0 where
   -- d has the length of w, and holds bytes
   pub size : length d ≡ length w
   pub bytes : Bytes d
   -- at each header bit, of prologue and directory, at most one of the three copies differs
   pub prologue : OneCopyOff w d 0 16
   pub directory : OneCopyOff w d 48 (16 * count w)
-  -- among each protected word and its check byte at most `most` of the 72 bits differ
-  pub words : (q c : ℕ) → Protected w q c → bitsOff w d q c ≤ most
+  -- among each protected word and its check byte at most `limit` of the 72 bits differ
+  pub words : (q c : ℕ) → Protected w q c → bitsOff w d q c ≤ limit
   -- no other byte differs
   pub others : (p : ℕ) → Elsewhere w p → at d p ≡ at w p
 

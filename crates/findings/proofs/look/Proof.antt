@@ -17,14 +17,14 @@ use Rattle.findings.proofs.look.Statement.{statement}
 use Rattle.findings.proofs.look.Tie as tie
 
 returns : tie.Need-returns
-returns c = let a = c .before .before .args in look-long (a .most) (a .image .now) (c .if1 .taken)
+returns c = let a = c .before .before .args in look-long (a .limit) (a .image .now) (c .if1 .taken)
 
 returns-2 : tie.Need-returns-2
 returns-2 c =
     let a = c .before .before .before .before .before .before .args in
     let x = a .image .now in
     let p = c .before .before .before .parse in
-    ap (λ (o : Parsed). foundIn o (scan x)) (sym (ap asParsed (c .before .refusal .given .1)) ∙ p .ensures) ∙ look-short (a .most) x (c .before .before .before .before .if1 .left)
+    ap (λ (o : Parsed). foundIn o (scan x)) (sym (ap asParsed (c .before .refusal .given .1)) ∙ p .ensures) ∙ look-short (a .limit) x (c .before .before .before .before .if1 .left)
 
 returns-3 : tie.Need-returns-3
 returns-3 c =
@@ -37,7 +37,7 @@ returns-3 c =
     let f : parseVerdict x ≡ fine = parsed-fine x (p .result) (p .ensures) h (g .1) in
     let scanned = c .before .verify-all .ensures ∙ ap (λ (m : ℕ). scanIn m x) n ∙ scan-is x f in
     ap₂ (λ (b : Bool) (s : Option Report). image (h .«region_count») b s) (c .needs-scrub .ensures) scanned
-    ∙ ap (λ (o : Parsed). foundIn o (scan x)) (sym (ap asParsed (g .1)) ∙ p .ensures) ∙ look-short (a .most) x (c .before .before .before .before .before .before .if1 .left)
+    ∙ ap (λ (o : Parsed). foundIn o (scan x)) (sym (ap asParsed (g .1)) ∙ p .ensures) ∙ look-short (a .limit) x (c .before .before .before .before .before .before .if1 .left)
 
 pub look-spec : {M : Type 1} → statement M
 look-spec =

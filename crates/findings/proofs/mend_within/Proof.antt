@@ -14,7 +14,7 @@ returns : tie.Need-returns
 returns c =
     let a = c .before .before .args in
     let x = a .image .now in
-    let e = mend-long (a .most) x (c .if1 .taken) in
+    let e = mend-long (a .limit) x (c .if1 .taken) in
     (e, ap (λ (o : Option MendAnswer). leftWithin o x) e)
 
 returns-2 : tie.Need-returns-2
@@ -22,7 +22,7 @@ returns-2 c =
     let a = c .before .before .before .before .before .before .before .before .before .args in
     let x = a .image .now in
     let m = c .before .before .before .before .before .mend in
-    let e = mend-short (a .most) x (c .before .before .before .before .before .before .before .if1 .left) in
+    let e = mend-short (a .limit) x (c .before .before .before .before .before .before .before .if1 .left) in
     (ap some (ap (λ (r : MendResult). asMended r (m .last .0)) (sym (c .before .refusal .given .1)) ∙ m .ensures .0) ∙ e, m .ensures .1 ∙ ap (λ (o : Option MendAnswer). leftWithin o x) e)
 
 returns-3 : tie.Need-returns-3
@@ -30,7 +30,7 @@ returns-3 c =
     let a = c .before .before .before .before .before .before .before .before .before .args in
     let x = a .image .now in
     let m = c .before .before .before .before .before .mend in
-    let e = mend-short (a .most) x (c .before .before .before .before .before .before .before .if1 .left) in
+    let e = mend-short (a .limit) x (c .before .before .before .before .before .before .before .if1 .left) in
     (ap some (ap (λ (r : MendResult). asMended r (m .last .0)) (sym (c .before .mending .given .1)) ∙ m .ensures .0) ∙ e, m .ensures .1 ∙ ap (λ (o : Option MendAnswer). leftWithin o x) e)
 
 pub mend-within-spec : {M : Type 1} → statement M
