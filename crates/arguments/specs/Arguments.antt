@@ -53,6 +53,7 @@ is x s = same x (text s)
 unfoldable pub dashed : List ℕ → Bool
 dashed x = ltb 1 (length x) && eqb (getD x 0 0) 45
 
+-- what an argument is that is none of the short options: a long option, an option that there is not, or a name
 unfoldable pub longOptionOf : List ℕ → ℕ
 longOptionOf x =
     cond (is x "--help") helpOption

@@ -24,12 +24,14 @@ helpText topic = cond (eqb topic report) reportHelp (cond (eqb topic mend) mendH
 unfoldable pub versionText : List ℕ
 versionText = text "kw 0.2.0, image format 2\n"
 
+-- the sentence on a fault about the output, and on any argument that is not expected
 unfoldable pub outputFault : ℕ → List ℕ
 outputFault f =
     cond (eqb f noOutput) (text "-o lacks the name of a file")
     (cond (eqb f secondOutput) (text "only one -o")
     (text "not expected here"))
 
+-- the sentence on a fault about the file that is read, or else about the output
 unfoldable pub fileFault : ℕ → List ℕ
 fileFault f =
     cond (eqb f noFile) (text "a file is missing")
