@@ -6,7 +6,7 @@ use native.Mathlib.Omega.{arith}
 use lib.ListN.{getD}
 use Rattle.model.proofs.OneAnswer.{OneAnswer, agree}
 use Rattle.error.specs.declared.Refusal.{Refusal}
-use Rattle.error.specs.declared.Refusal.the-variants.{Truncated, BadMagic, ForeignEndian, UnsupportedVersion, BadPrologueChecksum, TooManyRegions, RegionOutOfBounds, DuplicateRegion, BadRecordStride, Overflow, TooLarge, OverlappingRegions, NoRoom, BadPlan}
+use Rattle.error.specs.declared.Refusal.the-variants.{Truncated, BadMagic, ForeignEndian, UnsupportedVersion, BadPrologueChecksum, TooManyRegions, RegionOutOfBounds, DuplicateRegion, BadRecordStride, Overflow, TooLarge, OverlappingRegions, NoRoom, BadPlan, BadHexLine, HexGap}
 use Rattle.error.specs.declared.Check.{Check}
 use Rattle.error.specs.declared.Check.the-variants as check
 use Rattle.error.specs.Refused.{numberOf, detailOf, asVerdict, asCheck}
@@ -17,7 +17,7 @@ use Rattle.error.proofs.Refusal.detail.Reads as detail
 decode : ℕ → ℕ → Refusal
 decode n d =
     getD
-    (Truncated ∷ Truncated ∷ BadMagic ∷ ForeignEndian ∷ UnsupportedVersion d ∷ BadPrologueChecksum ∷ TooManyRegions d ∷ RegionOutOfBounds d ∷ DuplicateRegion d ∷ BadRecordStride ∷ Overflow ∷ TooLarge ∷ OverlappingRegions d ∷ NoRoom ∷ BadPlan d ∷ [])
+    (Truncated ∷ Truncated ∷ BadMagic ∷ ForeignEndian ∷ UnsupportedVersion d ∷ BadPrologueChecksum ∷ TooManyRegions d ∷ RegionOutOfBounds d ∷ DuplicateRegion d ∷ BadRecordStride ∷ Overflow ∷ TooLarge ∷ OverlappingRegions d ∷ NoRoom ∷ BadPlan d ∷ BadHexLine d ∷ HexGap d ∷ [])
     n Truncated
 
 decoded : (r : Refusal) → decode (numberOf r) (detailOf r) ≡ r
@@ -36,6 +36,8 @@ decoded TooLarge = refl
 decoded (OverlappingRegions d) = refl
 decoded NoRoom = refl
 decoded (BadPlan d) = refl
+decoded (BadHexLine d) = refl
+decoded (HexGap d) = refl
 
 pub one-refusal : (a b : Refusal) → asVerdict a ≡ asVerdict b → a ≡ b
 one-refusal a b e =

@@ -1,4 +1,4 @@
-// Why an image is not read, not mended or not written. Messages are left to the caller: each refusal has a number and a detail.
+// Why an image is not read, not mended or not written, and why a hex text is not. Messages are left to the caller: each refusal has a number and a detail.
 ghost use mathlib.Core.Path.{_≡_};
 ghost use Rattle.error.specs.Refused.{numberOf, detailOf};
 
@@ -19,6 +19,9 @@ pub enum Refusal {
     NoRoom,
     // A row's index, or the number of rows.
     BadPlan { row: usize },
+    // A line's number, from 1.
+    BadHexLine { line: usize },
+    HexGap { line: usize },
 }
 
 // What a run of checks says.
@@ -46,10 +49,12 @@ impl Refusal {
             Refusal::OverlappingRegions { index: _ } => 12,
             Refusal::NoRoom => 13,
             Refusal::BadPlan { row: _ } => 14,
+            Refusal::BadHexLine { line: _ } => 15,
+            Refusal::HexGap { line: _ } => 16,
         }
     }
 
-    // The version, count, index, kind or row inside, and 0 where there is none.
+    // The version, count, index, kind, row or line inside, and 0 where there is none.
     pub fn detail(self) -> u64
         ensures { λ r. ⌜ r ≡ detailOf self ⌝ }
     {
@@ -68,6 +73,8 @@ impl Refusal {
             Refusal::OverlappingRegions { index } => index as u64,
             Refusal::NoRoom => 0,
             Refusal::BadPlan { row } => row as u64,
+            Refusal::BadHexLine { line } => line as u64,
+            Refusal::HexGap { line } => line as u64,
         }
     }
 }

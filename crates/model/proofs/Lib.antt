@@ -14,3 +14,4 @@ pub mod ScanLaw
 pub mod PlaneLaw
 pub mod ProgramsLaw
 pub mod OneAnswer
+pub mod HexFigures

@@ -11,4 +11,5 @@ pub mod Writer
 pub mod Mend
 pub mod Placement
 pub mod Programs
+pub mod Hex
 pub mod Steps

@@ -45,6 +45,12 @@ noRoom = 13
 abbrev pub badPlan : ℕ
 badPlan = 14
 
+abbrev pub badHexLine : ℕ
+badHexLine = 15
+
+abbrev pub hexGap : ℕ
+hexGap = 16
+
 -- what a check says: nothing is wrong, or a refusal's number and detail
 pub data Verdict : Type 0 where
   fine : Verdict

@@ -4,7 +4,7 @@ use Prim.Native.Nat.{ℕ}
 use Prim.Native.String.{String}
 use Rattle.model.specs.Programs.{text, decimal}
 use Rattle.error.specs.declared.Refusal.{Refusal}
-use Rattle.error.specs.declared.Refusal.the-variants.{Truncated, BadMagic, ForeignEndian, UnsupportedVersion, BadPrologueChecksum, TooManyRegions, RegionOutOfBounds, DuplicateRegion, BadRecordStride, Overflow, TooLarge, OverlappingRegions, NoRoom, BadPlan}
+use Rattle.error.specs.declared.Refusal.the-variants.{Truncated, BadMagic, ForeignEndian, UnsupportedVersion, BadPrologueChecksum, TooManyRegions, RegionOutOfBounds, DuplicateRegion, BadRecordStride, Overflow, TooLarge, OverlappingRegions, NoRoom, BadPlan, BadHexLine, HexGap}
 
 -- a number within a text
 abbrev pub around : String → ℕ → String → List ℕ
@@ -26,3 +26,5 @@ sentence Overflow = text "a size has more than 64 bits (Overflow)"
 sentence TooLarge = text "the image would be too large (TooLarge)"
 sentence NoRoom = text "there is no room for the image (NoRoom)"
 sentence (BadPlan d) = around "row " d " of the plan is wrong (BadPlan)"
+sentence (BadHexLine d) = around "line " d " is no line of a hex text (BadHexLine)"
+sentence (HexGap d) = around "line " d " does not go on where the bytes before it end (HexGap)"

@@ -110,6 +110,8 @@ the image would be too large (TooLarge)
 entry # lies on the header or on an earlier region (OverlappingRegions)
 there is no room for the image (NoRoom)
 row # of the plan is wrong (BadPlan)
+line # is no line of a hex text (BadHexLine)
+line # does not go on where the bytes before it end (HexGap)
 ";
     put_line(out, lines, refusal)
 }

@@ -10,7 +10,7 @@ use lib.ListN.{length}
 use Rattle.io.proofs.Counting.{counts}
 use Rattle.model.specs.Programs.{text}
 use Rattle.error.specs.declared.Refusal.{Refusal}
-use Rattle.error.specs.declared.Refusal.the-variants.{Truncated, BadMagic, ForeignEndian, UnsupportedVersion, BadPrologueChecksum, TooManyRegions, RegionOutOfBounds, DuplicateRegion, BadRecordStride, Overflow, TooLarge, OverlappingRegions, NoRoom, BadPlan}
+use Rattle.error.specs.declared.Refusal.the-variants.{Truncated, BadMagic, ForeignEndian, UnsupportedVersion, BadPrologueChecksum, TooManyRegions, RegionOutOfBounds, DuplicateRegion, BadRecordStride, Overflow, TooLarge, OverlappingRegions, NoRoom, BadPlan, BadHexLine, HexGap}
 use Rattle.error.specs.Refused.{numberOf, detailOf}
 use Rattle.sentences.specs.Sentences.{sentence}
 use Rattle.sentences.specs.Lines.{place, lineStart, line, filled, Tells}
@@ -20,7 +20,7 @@ use Rattle.sentences.proofs.in_words.Tie as tie
 -- what holds of each refusal holds of all
 module _ (P : Refusal → Type 0)
     (p1 : P Truncated) (p2 : P BadMagic) (p3 : P ForeignEndian) (p4 : (d : ℕ) → P (UnsupportedVersion d)) (p5 : P BadPrologueChecksum) (p6 : (d : ℕ) → P (TooManyRegions d)) (p7 : (d : ℕ) → P (RegionOutOfBounds d))
-    (p8 : (d : ℕ) → P (DuplicateRegion d)) (p9 : P BadRecordStride) (p10 : P Overflow) (p11 : P TooLarge) (p12 : (d : ℕ) → P (OverlappingRegions d)) (p13 : P NoRoom) (p14 : (d : ℕ) → P (BadPlan d)) where
+    (p8 : (d : ℕ) → P (DuplicateRegion d)) (p9 : P BadRecordStride) (p10 : P Overflow) (p11 : P TooLarge) (p12 : (d : ℕ) → P (OverlappingRegions d)) (p13 : P NoRoom) (p14 : (d : ℕ) → P (BadPlan d)) (p15 : (d : ℕ) → P (BadHexLine d)) (p16 : (d : ℕ) → P (HexGap d)) where
   each : (r : Refusal) → P r
   each Truncated = p1
   each BadMagic = p2
@@ -36,6 +36,8 @@ module _ (P : Refusal → Type 0)
   each (OverlappingRegions d) = p12 d
   each NoRoom = p13
   each (BadPlan d) = p14 d
+  each (BadHexLine d) = p15 d
+  each (HexGap d) = p16 d
 
 tells : (t : List ℕ) (r : Refusal) → filled (detailOf r) (line (numberOf r) t) ≡ sentence r → leb (length (line (numberOf r) t)) 100 ≡ true → Tells t r
 tells t r e h = record { says = e; short = leb-true _ _ h }
@@ -45,7 +47,7 @@ unfolding sentence text place lineStart filled
 put-line-requires c κs = (
   each (Tells _)
       (tells _ _ refl refl) (tells _ _ refl refl) (tells _ _ refl refl) (λ d. tells _ _ refl refl) (tells _ _ refl refl) (λ d. tells _ _ refl refl) (λ d. tells _ _ refl refl)
-      (λ d. tells _ _ refl refl) (tells _ _ refl refl) (tells _ _ refl refl) (tells _ _ refl refl) (λ d. tells _ _ refl refl) (tells _ _ refl refl) (λ d. tells _ _ refl refl) _,
+      (λ d. tells _ _ refl refl) (tells _ _ refl refl) (tells _ _ refl refl) (tells _ _ refl refl) (λ d. tells _ _ refl refl) (tells _ _ refl refl) (λ d. tells _ _ refl refl) (λ d. tells _ _ refl refl) (λ d. tells _ _ refl refl) _,
   omega arith,
 )
 
