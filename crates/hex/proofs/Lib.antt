@@ -1,0 +1,3 @@
+pub mod RecordLaw
+pub mod WritingLaw
+pub mod AnswerLaw

@@ -1,0 +1,3 @@
+pub mod HexLength
+pub mod HexLines
+pub mod HexReadsBack

@@ -1,0 +1,1 @@
+// Laws of Intel HEX texts: definitions and laws only.
