@@ -1,4 +1,6 @@
 // What the command's arguments ask for. (FORMAT 14)
+#![tactic(auto)]
+
 mod argument;
 mod invocation;
 

@@ -1,4 +1,6 @@
 // Values that hold the borrowed bytes, with the Rust's method names: each method is thin over a function on slice and numbers.
+#![tactic(auto)]
+
 mod plane;
 mod pool;
 mod table;

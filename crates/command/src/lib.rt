@@ -1,4 +1,6 @@
 // The command kw: what it reads and writes. What it says, and its exit status, are decided by other crates. (FORMAT 14)
+#![tactic(auto)]
+
 mod asked;
 mod mend;
 mod report;

@@ -1,5 +1,7 @@
 // The words of a protected region corrected in place, one by one: by themselves, as scrub does, or with their check bytes, as mend
 // does. (FORMAT 8, 10)
+#![tactic(auto)]
+
 ghost use Rattle.std.specs.Prelude.{◌≡◌, cond, ◌+◌, ◌*◌, ◌^◌, ◌<◌, ◌≤◌, length, set};
 ghost use Rattle.model.specs.Bytes.{at, le_bytes, word_at};
 ghost use Rattle.model.specs.Parity.{check_of, outcome};

@@ -1,4 +1,6 @@
 // The checksum: CRC-32 of IEEE 802.3, a bit at a time. (FORMAT 4)
+#![tactic(auto)]
+
 ghost use Rattle.std.specs.Prelude.{◌≡◌};
 ghost use Rattle.model.specs.Crc.{bits_low, step_r, serial_r, Crc32, crc32};
 

@@ -1,4 +1,6 @@
 // (72,64) Hsiao SECDED, after ecc.rs: one check byte for each 64-bit word, in a plane beside the data.
+#![tactic(auto)]
+
 mod check_table;
 
 ghost use Rattle.std.specs.Prelude.{◌≡◌, ◌&&◌, ◌-◌, ◌*◌, ◌≤◌, eqb, ltb, length};

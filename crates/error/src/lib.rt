@@ -1,4 +1,6 @@
 // Why an image is not read, not mended or not written, and why a hex text is not. Messages are left to the caller: each refusal has a number and a detail.
+#![tactic(auto)]
+
 ghost use Rattle.std.specs.Prelude.{◌≡◌};
 ghost use Rattle.error.specs.Refused.{number_of, detail_of};
 

@@ -1,4 +1,6 @@
 // What is wrong with an image, and the exit status that says so. (FORMAT 14)
+#![tactic(auto)]
+
 ghost use Rattle.std.specs.Prelude.{◌≡◌, ◌||◌, max};
 ghost use Rattle.scan.specs.Answers.{as_scan};
 ghost use Rattle.exit_status.specs.Verdicts.{damaged_in, verdict_if, report_verdict, mending_verdict, writes_file, status_of};

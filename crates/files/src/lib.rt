@@ -1,5 +1,7 @@
 // Files that the command reads, replaces and prints to. No contract can say what a call of the system reads or writes; proved is that the functions end and are safe, and that
 // a count lies within its buffer. (FORMAT 14)
+#![tactic(auto)]
+
 mod links;
 mod saving;
 

@@ -1,4 +1,6 @@
 // What the system says of an open file. No contract can say what that is.
+#![tactic(auto)]
+
 use libc::types::{stat, timespec};
 
 fn no_time() -> timespec {

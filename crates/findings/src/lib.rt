@@ -1,4 +1,6 @@
 // What is found in an image of at most `limit` bytes, and what mend makes of one. (FORMAT 11)
+#![tactic(auto)]
+
 ghost use Rattle.std.specs.Prelude.{◌≡◌};
 ghost use Rattle.model.specs.Programs as model;
 ghost use Rattle.scan.specs.Answers.{as_scan};

@@ -1,4 +1,6 @@
 // Intel HEX: the text of a byte string, written and read. (FORMAT 15)
+#![tactic(auto)]
+
 mod record;
 mod writing;
 

@@ -1,1 +1,2 @@
 // Laws of Intel HEX texts: definitions and laws only.
+#![tactic(auto)]

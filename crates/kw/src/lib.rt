@@ -1,5 +1,7 @@
 // The C API: what firmware calls (include/kw.h). A `&[u8]` is a pointer and a length to C, a `&mut [u64; 4]` one pointer. Every number
 // of an answer is written at every call; nothing is allocated.
+#![tactic(auto)]
+
 mod regions;
 
 ghost use Rattle.std.specs.Prelude.{◌≡◌, length};

@@ -1,5 +1,7 @@
 // What host/compare calls to hold the leaves beside the Rust: each function here hands one of theirs on, with its
 // answer as numbers. A `&[u8]` is a pointer and a length to the caller, a `&mut [u64; 2]` one pointer.
+#![tactic(auto)]
+
 ghost use Rattle.std.specs.Prelude.{◌≡◌, ◌&&◌, eqb, ltb};
 ghost use Rattle.model.specs.Bytes.{read_in, le_bytes};
 ghost use Rattle.model.specs.Crc as checksum;

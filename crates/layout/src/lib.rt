@@ -1,4 +1,6 @@
 // The container's constants and limits, a directory entry as a value, and three sizes.
+#![tactic(auto)]
+
 ghost use Rattle.std.specs.Prelude.{◌≡◌, ◌*◌};
 ghost use Rattle.model.specs.Layout.{end, is_encrypted, is_plane, has_ecc, header_length, words_for, header_bytes};
 ghost use Rattle.model.specs.Scan.{is_protected};

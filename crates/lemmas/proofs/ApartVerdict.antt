@@ -1,6 +1,6 @@
 -- The first misplaced entry by a walk over the directory that says no more than its number: what laws about mend go by. Assumes nothing.
 use mathlib.Core.Path.{◌≡◌, refl, sym, ap, ◌∙◌}
-use mathlib.Core.Bool.{Bool, true, false, ◌||◌, cond, or_true, or-false}
+use mathlib.Core.Bool.{Bool, true, false, ◌||◌, cond, or-true, or-false}
 use mathlib.Core.List.{List, [], ◌∷◌, ◌++◌}
 use mathlib.Core.Option.{Option, none, some}
 use Prim.Native.Nat.{ℕ, suc}
@@ -34,7 +34,7 @@ met_last j e (f ∷ fs) g = go (meets e f) (met_last (suc j) e fs g)
   where
     go : (t : Bool) → is_some (meets_from (suc j) e (fs ++ (g ∷ []))) ≡ meets e g || is_some (meets_from (suc j) e fs)
         → is_some (cond t (some j) (meets_from (suc j) e (fs ++ (g ∷ [])))) ≡ meets e g || is_some (cond t (some j) (meets_from (suc j) e fs))
-    go true r = sym (or_true (meets e g))
+    go true r = sym (or-true (meets e g))
     go false r = r
 
 -- ---- it is mend's verdict

@@ -1,4 +1,6 @@
 // Mend: what the header's votes and the parity decide is repaired in place, and nothing else moves. (FORMAT 10)
+#![tactic(auto)]
+
 mod header;
 mod words;
 

@@ -1,4 +1,6 @@
 // What the command says in words. (FORMAT 14)
+#![tactic(auto)]
+
 mod complaint;
 mod usage;
 

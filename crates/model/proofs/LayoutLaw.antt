@@ -1,6 +1,6 @@
 -- Laws of the voted header and of the directory's entries. Assumes nothing.
 use mathlib.Core.Path.{◌≡◌, refl, sym, ap, ap₂, ◌∙◌}
-use mathlib.Core.Bool.{Bool, true, false, not, ◌||◌, or_true}
+use mathlib.Core.Bool.{Bool, true, false, not, ◌||◌, or-true}
 use mathlib.Core.List.{List, [], ◌∷◌}
 use Prim.Native.Nat.{ℕ, zero, suc, ◌+◌, ◌*◌, ◌≤◌, ◌<◌, zero-le, suc-le-suc}
 use native.Mathlib.Nat.{add-zero, le_of_suc-le-suc, not-suc-le-zero}
@@ -126,7 +126,7 @@ differs_at [] x p h f l = absurd (not-suc-le-zero h)
 differs_at (a ∷ v) [] p h f l = refl
 differs_at (a ∷ v) (b ∷ x) zero h f l = rw (ne_eqb a b f)
 differs_at (a ∷ v) (b ∷ x) (suc p) h f l =
-    ap (λ (t : Bool). not (eqb a b) || t) (differs_at v x p (le_of_suc-le-suc h) f (le_of_suc-le-suc l)) ∙ or_true (not (eqb a b))
+    ap (λ (t : Bool). not (eqb a b) || t) (differs_at v x p (le_of_suc-le-suc h) f (le_of_suc-le-suc l)) ∙ or-true (not (eqb a b))
 
 pub differs_not : (v x : List ℕ) → length v ≤ length x → ((p : ℕ) → p < length v → at v p ≡ at x p) → differs v x ≡ false
 unfolding differs

@@ -1,6 +1,6 @@
 -- Laws of the scans and of scrub: over parts of the image, visit by visit. Assumes nothing.
 use mathlib.Core.Path.{◌≡◌, refl, sym, ap, ap₂, ◌∙◌}
-use mathlib.Core.Bool.{Bool, true, false, ◌||◌, or_true, or-false}
+use mathlib.Core.Bool.{Bool, true, false, ◌||◌, or-true, or-false}
 use mathlib.Core.List.{List, [], ◌∷◌, ◌++◌, append-nil, append_assoc}
 use Prim.Native.Nat.{ℕ, zero, suc, ◌+◌, ◌-◌, ◌*◌, ◌/◌, ◌≤◌, ◌<◌, min}
 use native.Mathlib.Nat.{add-zero, zero-add, add-suc, suc-add, add_assoc, mul-div_cancel, min-eq_left}
@@ -181,4 +181,4 @@ more_visits (v ∷ vs) s h =
 pub visits_words : (vs : List Visit) (s : State) → scrub_visits vs s ≡ scrub_words (codewords_in vs) (mark (any_of vs) s)
 unfolding scrub_visits codewords_in scrub_words
 visits_words [] s = sym (rw (or-false s.visited))
-visits_words (v ∷ vs) s = sym (rw (or_true s.visited) (sym (more_visits (v ∷ vs) (record { image = s.image; met = s.met; visited = true }) refl)))
+visits_words (v ∷ vs) s = sym (rw (or-true s.visited) (sym (more_visits (v ∷ vs) (record { image = s.image; met = s.met; visited = true }) refl)))

@@ -1,6 +1,6 @@
 -- Entries as first and last words: what they meet is what the entries meet. Assumes nothing.
 use mathlib.Core.Path.{◌≡◌, refl, sym, ap, ap₂, ◌∙◌}
-use mathlib.Core.Bool.{Bool, true, false, not, ◌&&◌, ◌||◌, cond, or_true}
+use mathlib.Core.Bool.{Bool, true, false, not, ◌&&◌, ◌||◌, cond, or-true}
 use mathlib.Core.List.{List}
 use mathlib.Core.Option.{Option, none, some}
 use Prim.Native.Nat.{ℕ, zero, suc, ◌+◌, ◌-◌, ◌*◌, ◌^◌, ◌≤◌, ◌<◌, max}
@@ -142,7 +142,7 @@ module _ (a b : ℕ) (xs : List ℕ) (j n : ℕ) (l : j < n) (r : ℕ) (f : r �
       ∙ ap (λ (o : Option ℕ). not (eqb h 0) || is_some o) (sym opened)
     where
       go : (t : Bool) (o : Option ℕ) → not (eqb (h + cond t 1 0) 0) || is_some o ≡ not (eqb h 0) || is_some (cond t (some j) o)
-      go true o = rw (ne_eqb (h + 1) 0 (λ z. omega arith)) (sym (or_true (not (eqb h 0))))
+      go true o = rw (ne_eqb (h + 1) 0 (λ z. omega arith)) (sym (or-true (not (eqb h 0))))
       go false o = rw (add-zero h)
 
 pub none_left : (a b : ℕ) (xs : List ℕ) (j n : ℕ) → n ≤ j → overlaps_from a b xs j (n - j) ≡ none

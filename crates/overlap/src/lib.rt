@@ -1,4 +1,6 @@
 // Where regions lie: parse, then whether those that hold bytes keep off the header and off each other. (FORMAT 10)
+#![tactic(auto)]
+
 ghost use Rattle.std.specs.Prelude.{◌≡◌, false, ◌&&◌, cond, List, [], ◌+◌, ◌^◌, ◌<◌, ◌≤◌, max, leb, length, take};
 ghost use Rattle.model.specs.Layout.{Entry};
 ghost use Rattle.model.specs.Views.{entries_for};

@@ -1,4 +1,6 @@
 // The names of the files that the command writes, and a name as it is shown. Each is put at the start of out, and its length given. (FORMAT 14)
+#![tactic(auto)]
+
 ghost use Rattle.std.specs.Prelude.{◌≡◌, cond, ◌++◌, ◌+◌, ◌≤◌, eqb, length};
 ghost use Rattle.std.proofs.lemmas.List.Edits.{sets};
 ghost use Rattle.io.specs.Counts.{IsPrefixLen};

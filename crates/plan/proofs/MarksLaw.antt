@@ -1,6 +1,6 @@
 -- The marks of the kinds that were seen. Assumes nothing.
 use Rattle.std.proofs.Common.{◌≡◌, ℕ, zero, suc, ◌/◌, ◌%◌, ◌^◌, ◌<◌, ◌≤◌, Bool, true, false, ◌||◌, eqb, List, length, get_or, set, replicate, sym, refl, ap, ◌∙◌, arith, get_or-set_other, get_or-set_same, eq-eqb, ne_eqb, eqb-true}
-use mathlib.Core.Bool.{or_true, or-false}
+use mathlib.Core.Bool.{or-true, or-false}
 use borrow.Author.Tests.{eqb-false}
 use lib.Bits.{bit_or}
 use lib.ListN.{get_or-replicate}
@@ -29,7 +29,7 @@ mark_sets plan k x l = go (eqb (k / 64) (x / 64)) refl (eqb (k % 64) (x % 64)) r
     low : (b : Bool) → k / 64 ≡ x / 64 → (t : Bool) → eqb (k % 64) (x % 64) ≡ t → b || bit (2 ^ (k % 64)) (x % 64) ≡ eqb k x || b
     low b q true f =
         let r : k % 64 ≡ x % 64 = eqb-true (k % 64) (x % 64) f in
-        ap (λ (n : ℕ). b || bit (2 ^ (k % 64)) n) (sym r) ∙ ap (λ (z : Bool). b || z) (bit_own (k % 64)) ∙ or_true b
+        ap (λ (n : ℕ). b || bit (2 ^ (k % 64)) n) (sym r) ∙ ap (λ (z : Bool). b || z) (bit_own (k % 64)) ∙ or-true b
         ∙ ap (λ (z : Bool). z || b) (sym (eq-eqb k x (same_place k x q r)))
     low b q false f =
         let r : k % 64 ≡ x % 64 → ⊥ = eqb-false (k % 64) (x % 64) f in

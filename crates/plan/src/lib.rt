@@ -1,4 +1,6 @@
 // A plan: its rows, checked one by one and kept as numbers, and the sizes of its image. (FORMAT 9)
+#![tactic(auto)]
+
 mod rows;
 mod sizes;
 

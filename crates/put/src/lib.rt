@@ -1,5 +1,7 @@
 // Bytes put into a lent buffer in address order. Each function starts at a place and gives the place right behind its bytes.
 // The caller has the room, and is proved to: a test in each of them would never be seen to fail. (docs/DECISIONS.md)
+#![tactic(auto)]
+
 ghost use Rattle.std.specs.Prelude.{◌++◌, ◌+◌, ◌≤◌, length, replicate};
 ghost use Rattle.model.specs.Bytes.{le_bytes};
 ghost use Rattle.model.specs.Programs.{decimal};

@@ -1,4 +1,5 @@
 // report: what an image on standard input is, in one or two lines. (FORMAT 11)
+#![tactic(auto)]
 
 // One byte more than the longest input that is looked at, so that a longer one shows.
 const INPUT: usize = layout::MAX_INPUT_BYTES + 1;

@@ -1,6 +1,6 @@
 -- What a reader of k bytes knows once it has asked `has`, for every width at once. Assumes nothing.
-use mathlib.Core.Path.{◌≡◌, refl, sym, ap, ◌∙◌}
-use mathlib.Core.Bool.{Bool, true, false, not}
+use mathlib.Core.Path.{◌≡◌, sym, ap, ◌∙◌}
+use mathlib.Core.Bool.{Bool, true, false}
 use mathlib.Core.List.{List}
 use mathlib.Core.Option.{none, some}
 use Prim.Native.Nat.{ℕ, ◌+◌, ◌≤◌}
@@ -10,20 +10,12 @@ use lib.ListN.{length}
 use Rattle.model.specs.Bytes.{read, read_in}
 use Rattle.model.proofs.BytesLaw.{read_in_lem, read_past}
 
-turned : (t : Bool) → not t ≡ true → t ≡ false
-turned true e = cc
-turned false e = refl
-
-kept : (t : Bool) → not t ≡ false → t ≡ true
-kept true e = refl
-kept false e = cc
-
 module _ (k : ℕ) (x : List ℕ) (p : ℕ) {t : Bool} (e : t ≡ leb (p + k) (length x)) where
-  pub nothing : not t ≡ true → none ≡ read_in k x p
-  nothing f = read_past k x p (sym e ∙ turned t f)
+  pub nothing : t ≡ false → none ≡ read_in k x p
+  nothing f = read_past k x p (sym e ∙ f)
 
-  pub inside : not t ≡ false → p + k ≤ length x
-  inside f = leb-true (p + k) (length x) (sym e ∙ kept t f)
+  pub inside : t ≡ true → p + k ≤ length x
+  inside f = leb-true (p + k) (length x) (sym e ∙ f)
 
-  pub value : not t ≡ false → {v : ℕ} → v ≡ read k x p → some v ≡ read_in k x p
-  value f d = ap some d ∙ read_in_lem k x p (sym e ∙ kept t f)
+  pub value : t ≡ true → {v : ℕ} → v ≡ read k x p → some v ≡ read_in k x p
+  value f d = ap some d ∙ read_in_lem k x p (sym e ∙ f)

@@ -1,5 +1,7 @@
 // Little-endian numbers out of bytes and into bytes, and the vote over three bytes.
 // Every reader is total: where its bytes run past the end it answers `Nothing`, at any offset.
+#![tactic(auto)]
+
 ghost use Rattle.std.specs.Prelude.{◌≡◌, ◌+◌, ◌*◌, ◌≤◌, leb, length};
 ghost use Rattle.bits.specs.Vote.{Majority};
 ghost use Rattle.model.specs.Bytes.{read, read_in, le_bytes};

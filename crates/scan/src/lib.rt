@@ -1,4 +1,6 @@
 // Scans of an image against its parity planes, after view.rs: they count, and write nothing. (FORMAT 7)
+#![tactic(auto)]
+
 mod runs;
 mod tally;
 

@@ -1,4 +1,5 @@
 // scrub: the image on standard input, mended, to standard output, and how many bytes changed to standard error. (FORMAT 11)
+#![tactic(auto)]
 
 // One byte more than the longest input that is mended, so that a longer one shows.
 const INPUT: usize = layout::MAX_INPUT_BYTES + 1;

@@ -1,4 +1,6 @@
 // Scrub, after view.rs: corrected words are written in place without their check bytes, and counts are handed back. (FORMAT 8)
+#![tactic(auto)]
+
 ghost use Rattle.std.specs.Prelude.{◌≡◌};
 ghost use Rattle.scan.specs.Answers.{as_scan};
 ghost use Rattle.model.specs.Scrub as model;

@@ -1,5 +1,7 @@
 // Standard input, for the programs, and any other open file, for the command. No contract can say what a call of the system reads; proved is that the function ends, and that
 // its count lies within the buffer.
+#![tactic(auto)]
+
 ghost use Rattle.io.specs.Counts.{IsPrefixLen};
 
 // The bytes read, from the start of the buffer on, and whether a read failed before the input's end.

@@ -1,4 +1,6 @@
 // Parts of an image, record tables and pools, after view.rs: plain functions on slices and numbers. (FORMAT 6)
+#![tactic(auto)]
+
 ghost use Rattle.std.specs.Prelude.{◌≡◌, [], ℕ, ◌+◌, ◌*◌, ◌≤◌, length};
 ghost use Rattle.model.specs.Views.{bytes_span, table_span, is_table, record_count, record_range, range_is_forward, pool_range};
 ghost use Rattle.layout.specs.Regions.{as_entry};

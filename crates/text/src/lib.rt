@@ -1,4 +1,6 @@
 // What the programs and the command print of an image, made in a buffer of the caller's. (FORMAT 11, 14)
+#![tactic(auto)]
+
 mod line;
 mod told;
 

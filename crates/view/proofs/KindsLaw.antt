@@ -1,6 +1,6 @@
 -- The kinds of the entries, and whether one is among them. Assumes nothing.
 use mathlib.Core.Path.{◌≡◌, refl, sym, ap, ◌∙◌}
-use mathlib.Core.Bool.{Bool, true, false, ◌||◌, or_true}
+use mathlib.Core.Bool.{Bool, true, false, ◌||◌, or-true}
 use mathlib.Core.List.{List, [], ◌∷◌}
 use Prim.Native.Nat.{ℕ, zero, suc, ◌+◌, ◌*◌, ◌≤◌, ◌<◌}
 use native.Mathlib.Numerals.{add-one}
@@ -58,7 +58,7 @@ kind_read n x i h = kind_at n x i h ∙ sym (kind_front n x i)
 module _ (k : ℕ) (xs : List ℕ) (j : ℕ) (h : j < length xs) where
   pub elem_hit : (t : Bool) → get_or xs j 0 ≡ k → true || elem k (drop (j + 1) xs) ≡ t || elem k (drop j xs)
   unfolding elem
-  elem_hit t e = sym (rw (drop-cons xs j 0 h, eq-eqb (get_or xs j 0) k e) (or_true t))
+  elem_hit t e = sym (rw (drop-cons xs j 0 h, eq-eqb (get_or xs j 0) k e) (or-true t))
 
   pub elem_miss : (t : Bool) → (get_or xs j 0 ≡ k → ⊥) → t || elem k (drop (j + 1) xs) ≡ t || elem k (drop j xs)
   unfolding elem

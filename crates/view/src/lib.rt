@@ -1,4 +1,6 @@
 // The reader, after view.rs: parse and lookups over a caller's bytes.
+#![tactic(auto)]
+
 mod header;
 mod regions;
 mod vote;

@@ -1,4 +1,6 @@
 // The writer: an image of a plan, rows beside one payload. (FORMAT 9)
+#![tactic(auto)]
+
 ghost use Rattle.std.specs.Prelude.{◌≡◌, length};
 ghost use Rattle.model.specs.Writer as model;
 ghost use Rattle.plan.specs.Rows.{as_plan};

@@ -1,0 +1,14 @@
+use mathlib.Core.Path.{◌≡◌, refl, subst}
+use Prim.Native.Nat.{ℕ, ◌-◌, ◌*◌, ◌≤◌}
+use native.Mathlib.Omega.{arith}
+use Rattle.model.specs.Parity.{columns}
+use Rattle.ecc.specs.CheckTable.{Filled}
+use Rattle.ecc.proofs.CheckTableLaw.{empty, all_filled}
+use Rattle.ecc.proofs.check_table.fill_check_table.Given as goal
+
+-- `ecc::check_table::fill_check_table` meets its contract. The invariant: the places passed are filled. Assumes nothing.
+abbrev pub invariant-loop-k : goal.invariant-loop-k
+invariant-loop-k l = (l.k ≤ 8) × Filled (256 * l.k) l.table
+
+abbrev pub decreases-loop-k : goal.decreases-loop-k
+decreases-loop-k l = 8 - l.k

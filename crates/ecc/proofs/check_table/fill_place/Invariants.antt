@@ -1,0 +1,15 @@
+use mathlib.Core.Path.{◌≡◌, ap, subst}
+use mathlib.Core.List.{List}
+use Prim.Native.Nat.{ℕ, ◌+◌, ◌-◌, ◌*◌, ◌^◌, ◌≤◌}
+use native.Mathlib.Omega.{arith}
+use Rattle.model.specs.Bytes.{at}
+use Rattle.ecc.specs.CheckTable.{Filled}
+use Rattle.ecc.proofs.CheckTableLaw.{first, put}
+use Rattle.ecc.proofs.check_table.fill_place.Given as goal
+
+-- `ecc::check_table::fill_place` meets its contract. The invariant: the table is filled up to byte 2 ^ i of the place. Assumes nothing.
+abbrev pub invariant-loop-i : goal.invariant-loop-i
+invariant-loop-i l = (l.i ≤ 8) × Filled (256 * l.k + 2 ^ l.i) l.table
+
+abbrev pub decreases-loop-i : goal.decreases-loop-i
+decreases-loop-i l = 8 - l.i

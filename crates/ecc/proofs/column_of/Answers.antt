@@ -1,0 +1,69 @@
+use mathlib.Core.Path.{◌≡◌, refl, sym, ap, ◌∙◌, subst}
+use mathlib.Core.Logic.{⊎_elim}
+use Prim.Native.Nat.{ℕ, zero, suc, ◌+◌, ◌-◌, ◌≤◌, ◌<◌}
+use native.Mathlib.Omega.{arith}
+use native.Mathlib.Decide.{ℕ_discrete}
+use borrow.Author.Rules.{rules}
+use lib.Bits.{bit_or}
+use lib.ListN.{get_or}
+use Rattle.model.specs.Parity.{columns, find}
+use Rattle.model.proofs.ParityLaw.{find_column, find_none, columns_differ}
+use Rattle.ecc.specs.Answers.{place_in}
+use Rattle.ecc.proofs.column_of.Goals as goal
+
+-- `ecc::column_of` meets its contract. The invariant: as long as nothing is found, no column before `i` is `s`; then `left` is what its
+-- place leaves of 72. No other column is `s`, so nothing is added to that.
+record Sought (s left i : ℕ) : Type 0 where
+  small : left ≤ 72
+  none_yet : left ≡ 0 → (k : ℕ) → k < i → get_or columns k 0 ≡ s → ⊥
+  one : 0 < left → (get_or columns (72 - left) 0 ≡ s) × (72 - left < i)
+
+-- the loop's three steps, over the columns as they are
+found : (s left i : ℕ) → i < 72 → get_or columns i 0 ≡ s → Sought s left i → Sought s (bit_or left (72 - i)) (i + 1)
+found s zero i h e q =
+    let p : 72 - (72 - i) ≡ i = omega arith in
+    record { small = omega arith; none_yet = λ z. absurd (omega arith); one = λ l. (ap (λ (k : ℕ). get_or columns k 0) p ∙ e, omega arith) }
+found s (suc n) i h e q =
+    let o = q.one (omega arith) in
+    absurd (omega (arith, o.1, columns_differ (72 - suc n) i (omega arith) h (o.0 ∙ sym e)))
+
+passed : (s left i : ℕ) → i < 72 → (get_or columns i 0 ≡ s → ⊥) → Sought s left i → Sought s left (i + 1)
+passed s left i h f q =
+    record {
+      small = q.small;
+      none_yet = λ z k l e. earlier k l e z (ℕ_discrete k i);
+      one = λ l. ((q.one l).0, omega (arith, (q.one l).1));
+    }
+  where
+    earlier : (k : ℕ) → k < i + 1 → get_or columns k 0 ≡ s → left ≡ 0 → Dec (k ≡ i) → ⊥
+    earlier k l e z (yes d) = f (ap (λ (n : ℕ). get_or columns n 0) (sym d) ∙ e)
+    earlier k l e z (no n) = q.none_yet z k (omega arith) e
+
+ended : (s left i : ℕ) → i ≡ 72 → Sought s left i → 72 - left ≡ place_in (find s columns)
+unfolding columns
+ended s zero i e q = sym (ap place_in (find_none s columns (λ k h. q.none_yet refl k (omega arith))))
+ended s (suc n) i e q =
+    let o = q.one (omega arith) in
+    sym (ap place_in (ap (λ (k : ℕ). find k columns) (sym o.0) ∙ find_column (72 - suc n) (omega (arith, o.1))))
+
+pub loop-i-init : goal.loop-i-init
+loop-i-init c = (omega arith, record { small = omega arith; none_yet = λ z k h. absurd (omega arith); one = λ p. absurd (omega arith) })
+
+pub loop-i-preserved : goal.loop-i-preserved
+unfolding columns
+loop-i-preserved c =
+    let l = c.loop-i in
+    let s = c.args.syndrome in (
+      omega arith,
+      ⊎_elim (λ w. subst (λ (n : ℕ). Sought s n (l.i + 1)) (sym w.1) (found s l.left l.i (search rules) w.0.taken l.invariant.1))
+          (λ w. subst (λ (n : ℕ). Sought s n (l.i + 1)) (sym w.1) (passed s l.left l.i (search rules) w.0.left l.invariant.1))
+          c.if-table-i.branch,
+    )
+
+pub returns : goal.returns
+returns c =
+    let l = c.loop-i in
+    (ended c.args.syndrome l.left l.i (omega arith) l.invariant.1, omega arith)
+
+pub overflow_sub-result : goal.overflow_sub-result
+overflow_sub-result c = omega (arith, c.loop-i.invariant.1.small)
