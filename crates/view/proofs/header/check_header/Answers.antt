@@ -1,9 +1,7 @@
--- `view::header::check_header` meets its contract: the checks in their order. Assumes nothing.
 use mathlib.Core.Path.{◌≡◌, sym, ap, ◌∙◌, subst}
 use mathlib.Core.List.{List}
 use Prim.Native.Nat.{ℕ, ◌≤◌, ◌<◌}
 use native.Mathlib.Omega.{arith}
-use borrow.Author.Rules.{rules}
 use lib.ListN.{length}
 use Rattle.model.specs.Layout.{prologue, count, header_length, directory, directory_of}
 use Rattle.model.specs.Parse.{prologue_verdict, parse_verdict, entries_verdict}
@@ -18,10 +16,9 @@ use Rattle.view.specs.declared.header.Counted.{Counted}
 use Rattle.view.specs.declared.header.Counted.TheVariants.{Count, Refuse}
 use Rattle.view.specs.Answers.{as_counted, with_count, refused_with, fine_with}
 use Rattle.view.proofs.AnswersLaw.{counted_fine, counted_count, counted_refused, with_fine, with_refused}
-use borrow.Author.Rules.{rules}
-use Rattle.view.proofs.header.check_header.Statement.{statement}
-use Rattle.view.proofs.header.check_header.Tie as tie
+use Rattle.view.proofs.header.check_header.Goals as goal
 
+-- `view::header::check_header` meets its contract: the checks in their order. Assumes nothing.
 -- past the first check: x has 48 bytes, and r is what the prologue's checks say
 module _ (x : List ℕ) (l : 48 ≤ length x) (r : Counted) (e : as_counted r ≡ with_count (prologue_verdict (prologue x)) (count x)) where
   refused_there : (s : Refusal) → r ≡ Refuse s → as_counted r ≡ with_count (parse_verdict x) (count x)
@@ -58,61 +55,32 @@ module _ (x : List ℕ) (l : 48 ≤ length x) (r : Counted) (e : as_counted r �
       entry_refused : (s : Refusal) → k ≡ check.Refuse s → refused_with (number_of s) (detail_of s) ≡ with_count (parse_verdict x) (count x)
       entry_refused s g = with_refused (parse_verdict x) (number_of s) (detail_of s) (count x) (sym say ∙ ap as_check g)
 
-returns : tie.Need-returns
-returns c = let x = c.before.before.args.bytes.now in with_refused (parse_verdict x) 1 0 (count x) (too_short x c.if1.true)
+pub returns-then-bytes-lt-DIRECTORY_OFFSET : goal.returns-then-bytes-lt-DIRECTORY_OFFSET
+returns-then-bytes-lt-DIRECTORY_OFFSET c = let x = c.args.bytes.now in with_refused (parse_verdict x) 1 0 (count x) (too_short x c.if-bytes-lt-DIRECTORY_OFFSET.true)
 
-returns-2 : tie.Need-returns-2
-returns-2 c =
-    let p = c.before.before in
-    refused_there p.before.before.before.args.bytes.now p.before.if1.false p.check-prologue.result p.check-prologue.ensures c.enum_told.given.0.0 c.enum_told.given.1
+pub returns-in_default : goal.returns-in_default
+returns-in_default c =
+    refused_there c.args.bytes.now c.if-bytes-lt-DIRECTORY_OFFSET.false c.check_prologue-checked.result c.check_prologue-checked.ensures c.in_default.field-0 c.in_default.is
 
-returns-3 : tie.Need-returns-3
-returns-3 c =
-    let k = c.before.before.before in
-    let p = k.before.before in
-    short_header p.before.before.before.args.bytes.now p.before.if1.false p.check-prologue.result p.check-prologue.ensures
-    k.checked.given.0.0 k.checked.given.1 (omega (arith, c.if2.true, c.before.header-length.ensures))
+pub returns-then-bytes-header_length : goal.returns-then-bytes-header_length
+returns-then-bytes-header_length c =
+    short_header c.args.bytes.now c.if-bytes-lt-DIRECTORY_OFFSET.false c.check_prologue-checked.result c.check_prologue-checked.ensures
+    c.in-Count.n c.in-Count.is (omega (arith, c.if-bytes-header_length.true, c.header_length.ensures))
 
-check-directory-requires : tie.Need-check-directory-requires
-check-directory-requires c κs =
-    let k = c.before.before.before in
-    let p = k.before.before in (
-      omega (arith, c.if2.false, c.before.header-length.ensures),
-      small_count p.before.before.before.args.bytes.now p.before.if1.false p.check-prologue.result p.check-prologue.ensures
-          k.checked.given.0.0 k.checked.given.1,
-    )
+pub check_directory-requires : goal.check_directory-requires
+check_directory-requires c = (
+  omega (arith, c.if-bytes-header_length.false, c.header_length.ensures),
+  small_count c.args.bytes.now c.if-bytes-lt-DIRECTORY_OFFSET.false c.check_prologue-checked.result c.check_prologue-checked.ensures
+      c.in-Count.n c.in-Count.is,
+)
 
-returns-4 : tie.Need-returns-4
-returns-4 c =
-    let d = c.before.before in
-    let k = d.before.before.before.before in
-    let p = k.before.before in
-    all_fine p.before.before.before.args.bytes.now p.before.if1.false p.check-prologue.result p.check-prologue.ensures
-    k.checked.given.0.0 k.checked.given.1 (omega (arith, d.before.if2.false, d.before.before.header-length.ensures)) d.check-directory.result d.check-directory.ensures c.enum-told2.given.1
+pub returns-in-Fine : goal.returns-in-Fine
+returns-in-Fine c =
+    all_fine c.args.bytes.now c.if-bytes-lt-DIRECTORY_OFFSET.false c.check_prologue-checked.result c.check_prologue-checked.ensures
+    c.in-Count.n c.in-Count.is (omega (arith, c.if-bytes-header_length.false, c.header_length.ensures)) c.check_directory.result c.check_directory.ensures c.in-Fine.is
 
-returns-5 : tie.Need-returns-5
-returns-5 c =
-    let d = c.before.before.before in
-    let k = d.before.before.before.before in
-    let p = k.before.before in
-    entry_refused p.before.before.before.args.bytes.now p.before.if1.false p.check-prologue.result p.check-prologue.ensures
-    k.checked.given.0.0 k.checked.given.1 (omega (arith, d.before.if2.false, d.before.before.header-length.ensures)) d.check-directory.result d.check-directory.ensures
-    c.before.refusal.given.0.0 c.before.refusal.given.1
-
-pub check_header_spec : {M : Type 1} → statement M
-check_header_spec =
-    tie.close
-    (tie.spec
-    returns
-    (λ c κs. search rules)
-    (λ c. search rules)
-    (λ c. search rules)
-    returns-2
-    (λ c κs. search rules)
-    returns-3
-    (λ c. search rules)
-    check-directory-requires
-    (λ c. search rules)
-    (λ c. search rules)
-    returns-4
-    returns-5)
+pub returns-in-Refuse : goal.returns-in-Refuse
+returns-in-Refuse c =
+    entry_refused c.args.bytes.now c.if-bytes-lt-DIRECTORY_OFFSET.false c.check_prologue-checked.result c.check_prologue-checked.ensures
+    c.in-Count.n c.in-Count.is (omega (arith, c.if-bytes-header_length.false, c.header_length.ensures)) c.check_directory.result c.check_directory.ensures
+    c.in-Refuse.refusal c.in-Refuse.is

@@ -1,4 +1,3 @@
--- `view::header::parse` meets its contract. Assumes nothing.
 use mathlib.Core.Path.{◌≡◌, sym, ap, ◌∙◌, subst}
 use mathlib.Core.Bool.{Bool}
 use mathlib.Core.List.{List}
@@ -17,10 +16,9 @@ use Rattle.view.specs.declared.header.Counted.{Counted}
 use Rattle.view.specs.declared.header.Counted.TheVariants.{Count, Refuse}
 use Rattle.view.specs.Answers.{as_counted, with_count}
 use Rattle.view.proofs.AnswersLaw.{counted_fine, counted_count, counted_refused}
-use borrow.Author.Rules.{rules}
-use Rattle.view.proofs.header.parse.Statement.{statement}
-use Rattle.view.proofs.header.parse.Tie as tie
+use Rattle.view.proofs.header.parse.Goals as goal
 
+-- `view::header::parse` meets its contract. Assumes nothing.
 -- r is what the checks say of x
 module _ (x : List ℕ) (r : Counted) (e : as_counted r ≡ with_count (parse_verdict x) (count x)) where
   is_refused : (s : Refusal) → r ≡ Refuse s → refused (number_of s) (detail_of s) ≡ model.parse x
@@ -45,39 +43,19 @@ module _ (x : List ℕ) (r : Counted) (e : as_counted r ≡ with_count (parse_ve
     is_parsed p d ep ed =
         rw (ep, ed, is_count) (ap (λ (v : Verdict). parsed_as v (header_of x)) (sym is_fine))
 
-copies-differ-requires : tie.Need-copies-differ-requires
-copies-differ-requires c κs =
-    let h = c.before.before.before in
-    omega (arith, long h.before.before.args.bytes.now h.check-header.result h.check-header.ensures c.before.checked2.given.0.0 c.before.checked2.given.1)
+pub copies_differ-requires : goal.copies_differ-requires
+copies_differ-requires c =
+    omega (arith, long c.args.bytes.now c.check_header-checked.result c.check_header-checked.ensures c.in-Count.n c.in-Count.is)
 
-copies-differ-requires-2 : tie.Need-copies-differ-requires-2
-copies-differ-requires-2 c κs =
-    let k = c.before.before in
-    let h = k.before.before in
-    omega (arith, long h.before.before.args.bytes.now h.check-header.result h.check-header.ensures k.checked2.given.0.0 k.checked2.given.1)
+pub copies_differ-requires-in-Count : goal.copies_differ-requires-in-Count
+copies_differ-requires-in-Count c =
+    omega (arith, long c.args.bytes.now c.check_header-checked.result c.check_header-checked.ensures c.in-Count.n c.in-Count.is)
 
-returns : tie.Need-returns
-returns c =
-    let h = c.before.before.before in
-    is_refused h.before.before.args.bytes.now h.check-header.result h.check-header.ensures c.before.checked.given.0.0 c.before.checked.given.1
+pub returns-in-Refuse : goal.returns-in-Refuse
+returns-in-Refuse c =
+    is_refused c.args.bytes.now c.check_header-checked.result c.check_header-checked.ensures c.in-Refuse.refusal c.in-Refuse.is
 
-returns-2 : tie.Need-returns-2
-returns-2 c =
-    let k = c.before.before.before in
-    let h = k.before.before in
-    is_parsed h.before.before.args.bytes.now h.check-header.result h.check-header.ensures k.checked2.given.0.0 k.checked2.given.1
-    c.before.copies-differ.result c.copies-differ2.result c.before.copies-differ.ensures c.copies-differ2.ensures
-
-pub parse_spec : {M : Type 1} → statement M
-parse_spec =
-    tie.close
-    (tie.spec
-    (λ c κs. search rules)
-    (λ c. search rules)
-    (λ c. search rules)
-    copies-differ-requires
-    (λ c. search rules)
-    (λ c. search rules)
-    copies-differ-requires-2
-    returns
-    returns-2)
+pub returns-in-Count : goal.returns-in-Count
+returns-in-Count c =
+    is_parsed c.args.bytes.now c.check_header-checked.result c.check_header-checked.ensures c.in-Count.n c.in-Count.is
+    c.copies_differ.result c.copies_differ-in-Count.result c.copies_differ.ensures c.copies_differ-in-Count.ensures
