@@ -32,7 +32,8 @@ def split_decls(text):
             continue
         m = re.match(r"(?:(?:pub|abbrev|unfoldable|infixl|infixr|infix)\s+)*(" + NAME + r")\s*:(?=\s|$)", line)
         if m or re.match(r"(module|data|record|pub data|pub record)\b", line):
-            cur = [pend, m.group(1) if m else line, [line]]
+            r = re.match(r"(?:pub )?(?:module|data|record)\s+(?:pub\s+)?(" + NAME + ")", line)
+            cur = [pend, m.group(1) if m else (r.group(1) if r else line), [line]]
             decls.append(cur)
             pend = []
             continue
@@ -130,10 +131,10 @@ def as_record(body, clauses):
 class Turn:
     def __init__(self, crate, path, info, said):
         self.crate, self.path, self.info, self.said = crate, path, info, said
-        self.fields, self.places, self.goals = {}, {}, {}
+        self.fields, self.places, self.goals, self.cases = {}, {}, {}, []
         for (old, parent, (f, g), callee, facts), new in zip(info["places"], info["places_by_name"]):
             self.places[norm(old)] = new
-            if f:
+            if f and g != f + "-1":
                 if self.fields.get(norm(f), g) != g:
                     said(f"{path}: field {f} is {self.fields[norm(f)]} and {g}")
                 self.fields.setdefault(norm(f), g)
@@ -165,6 +166,7 @@ class Turn:
                     again = True
                     break
         text = re.sub(r"(?:\.before)+(?=\.[a-zA-Z_])", "", text)
+        text = re.sub(r"\.args\.([a-z][\w-]*)", lambda m: ".args." + m.group(1).replace("-", "_"), text)
         text = re.sub(r"\btie\.Need-(" + NAME + ")", lambda m: "goal." + (self.goal(m.group(1)) or "NEED-" + m.group(1)), text)
         text = re.sub(r"\btie\.(" + NAME + ")", lambda m: "goal." + self.places.get(norm(m.group(1)), m.group(1)), text)
 
@@ -172,12 +174,47 @@ class Turn:
             return "." + self.fields.get(norm(m.group(1)), m.group(1))
 
         text = re.sub(r"\.([A-Za-z_][^\s(){}\[\],.;λ`\"|:=]*)", field, text)
+        text = self.joins(text)
         for g, facts in self.facts.items():
             if "true" in facts or "false" in facts:
                 for old in ("true", "false"):
                     if old in facts:
                         text = re.sub(r"\." + re.escape(g) + r"\." + old + r"(?![\w-])", f".{g}.{facts[old]}", text)
         return text
+
+    def joins(self, text):
+        """`⊎_elim (λ w. A) (λ w. B) c.if-x.branch` as an elim on the branch."""
+        at = 0
+        while True:
+            k = text.find("⊎_elim", at)
+            if k < 0:
+                return text
+            at = k + 1
+            j = k + len("⊎_elim")
+            groups, ok = [], True
+            for _ in range(2):
+                while j < len(text) and text[j].isspace():
+                    j += 1
+                if j >= len(text) or text[j] != "(":
+                    ok = False
+                    break
+                e = balanced(text, j)
+                groups.append(text[j + 1:e - 1])
+                j = e
+            m = re.compile(r"\s*([\w.«»-]+\.(if-[^\s(){}\[\],.;]+)\.branch)").match(text, j) if ok else None
+            ms = [re.match(r"λ (\w+)\.\s*(.*)$", g, re.S) for g in groups]
+            if not m or not all(ms):
+                self.said(f"{self.path}: a join is left")
+                continue
+            x = m.group(2)
+            arms = []
+            for side, fact, mm in zip(("then", "else"), ("true", "false"), ms):
+                v, body = mm.group(1), mm.group(2)
+                body = re.sub(r"(?<![\w.'-])" + v + r"\.0\.(taken|left)(?![\w-])", f"{v}.{x}.{fact}", body)
+                c = side + x[2:]
+                self.cases.append(c)
+                arms.append(f"{c} {v} ↦ {body}")
+            text = text[:k] + f"elim {m.group(1)} [ " + "\n    | ".join(arms) + " ]" + text[m.end():]
 
     def live(self, name, decl):
         """An invariant or a measure over `l`."""
@@ -295,6 +332,8 @@ class Turn:
             order = [x for x in moved] + invariants
             for c, n, d in order:
                 d2 = d if d.startswith(("abbrev pub", "pub")) else re.sub(r"^(abbrev )?", lambda k: (k.group(1) or "") + "pub ", d, count=1)
+                if re.match(r"(pub )?record", d2):
+                    d2 = re.sub(r"(?m)^  (?!pub )(" + NAME + r" :)", r"  pub \1", d2)
                 t += "\n" + "\n".join(c + [d2]) + "\n"
             out["Invariants.antt"] = t
         if rest:
@@ -302,6 +341,8 @@ class Turn:
             if moved:
                 t += f"\nuse {base}.Invariants.{{{', '.join(n for _, n, _ in moved)}}}"
             t += f"\nuse {base}.Goals as goal\n"
+            if self.cases:
+                t += f"use {base}.Goals.{{{', '.join(dict.fromkeys(self.cases))}}}\n"
             for c, n, d in rest:
                 t += "\n" + "\n".join(c + [d]) + "\n"
             out["Answers.antt"] = t

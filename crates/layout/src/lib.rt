@@ -46,7 +46,7 @@ pub const FLAG_IS_ECC: u16 = 1 << 3;
 const LARGEST: usize = 0xFFFF_FFFF_FFFF_FFFF;
 
 // A directory entry, without its reserved field.
-#[derive(Drop)]
+#[derive(Clone, Copy)]
 pub struct Region {
     pub kind: u16,
     pub flags: u16,

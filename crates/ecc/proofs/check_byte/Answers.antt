@@ -1,8 +1,7 @@
 use mathlib.Core.Path.{◌≡◌, sym, ap, ap₂, ◌∙◌}
-use mathlib.Core.Logic.{⊎_elim}
 use mathlib.Core.Bool.{Bool, true, false}
 use mathlib.Core.List.{List}
-use Prim.Native.Nat.{ℕ, ◌+◌, ◌-◌, ◌*◌, ◌/◌, ◌%◌, ◌^◌, ◌≤◌, ◌<◌}
+use Prim.Native.Nat.{ℕ, ◌+◌, ◌-◌, ◌*◌, ◌/◌, ◌%◌, ◌^◌, ◌<◌}
 use native.Mathlib.Nat.{div-one, mod-lt, div-add-mod'}
 use native.Mathlib.Omega.{arith}
 use native.Mathlib.Numerals.{add-one}
@@ -17,6 +16,7 @@ use Rattle.bits.specs.Linear.{xor_columns, pick}
 use Rattle.bits.proofs.BitLaw.{xor_assoc, bit_zero}
 use Rattle.model.specs.Parity.{columns, check_of}
 use Rattle.ecc.proofs.check_byte.Goals as goal
+use Rattle.ecc.proofs.check_byte.Goals.{then-byte-i-eq1, else-byte-i-eq1}
 
 -- `ecc::check_byte` meets its contract. The invariant: with the columns of the bits to come, `s` is the check byte.
 -- one column and the rest
@@ -74,10 +74,10 @@ loop-i-preserved c =
     let d = c.args.«data» in (
       search rules,
       turn d c.loop-i.s c.if-byte-i-eq1.s c.loop-i.i (search rules)
-          (⊎_elim
-          (λ w. w.1 ∙ ap (λ (t : Bool). bit_xor c.loop-i.s (pick t (get_or columns c.loop-i.i 0))) (sym (set d c.loop-i.i w.0.taken)))
-          (λ w. w.1 ∙ sym (xor_zero_r c.loop-i.s) ∙ ap (λ (t : Bool). bit_xor c.loop-i.s (pick t (get_or columns c.loop-i.i 0))) (sym (unset d c.loop-i.i w.0.left)))
-          c.if-byte-i-eq1.branch)
+          (elim c.if-byte-i-eq1.branch [
+            | then-byte-i-eq1 w ↦ w.s-is ∙ ap (λ (t : Bool). bit_xor c.loop-i.s (pick t (get_or columns c.loop-i.i 0))) (sym (set d c.loop-i.i w.if-byte-i-eq1.true))
+            | else-byte-i-eq1 w ↦ w.s-is ∙ sym (xor_zero_r c.loop-i.s) ∙ ap (λ (t : Bool). bit_xor c.loop-i.s (pick t (get_or columns c.loop-i.i 0))) (sym (unset d c.loop-i.i w.if-byte-i-eq1.false))
+          ])
           c.loop-i.invariant.1,
     )
 

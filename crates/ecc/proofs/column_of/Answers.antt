@@ -1,6 +1,5 @@
 use mathlib.Core.Path.{◌≡◌, refl, sym, ap, ◌∙◌, subst}
-use mathlib.Core.Logic.{⊎_elim}
-use Prim.Native.Nat.{ℕ, zero, suc, ◌+◌, ◌-◌, ◌≤◌, ◌<◌}
+use Prim.Native.Nat.{ℕ, zero, suc, ◌+◌, ◌-◌, ◌<◌}
 use native.Mathlib.Omega.{arith}
 use native.Mathlib.Decide.{ℕ_discrete}
 use borrow.Author.Rules.{rules}
@@ -9,14 +8,9 @@ use lib.ListN.{get_or}
 use Rattle.model.specs.Parity.{columns, find}
 use Rattle.model.proofs.ParityLaw.{find_column, find_none, columns_differ}
 use Rattle.ecc.specs.Answers.{place_in}
+use Rattle.ecc.proofs.column_of.Invariants.{Sought}
 use Rattle.ecc.proofs.column_of.Goals as goal
-
--- `ecc::column_of` meets its contract. The invariant: as long as nothing is found, no column before `i` is `s`; then `left` is what its
--- place leaves of 72. No other column is `s`, so nothing is added to that.
-record Sought (s left i : ℕ) : Type 0 where
-  small : left ≤ 72
-  none_yet : left ≡ 0 → (k : ℕ) → k < i → get_or columns k 0 ≡ s → ⊥
-  one : 0 < left → (get_or columns (72 - left) 0 ≡ s) × (72 - left < i)
+use Rattle.ecc.proofs.column_of.Goals.{then-table-i, else-table-i}
 
 -- the loop's three steps, over the columns as they are
 found : (s left i : ℕ) → i < 72 → get_or columns i 0 ≡ s → Sought s left i → Sought s (bit_or left (72 - i)) (i + 1)
@@ -55,9 +49,10 @@ loop-i-preserved c =
     let l = c.loop-i in
     let s = c.args.syndrome in (
       omega arith,
-      ⊎_elim (λ w. subst (λ (n : ℕ). Sought s n (l.i + 1)) (sym w.1) (found s l.left l.i (search rules) w.0.taken l.invariant.1))
-          (λ w. subst (λ (n : ℕ). Sought s n (l.i + 1)) (sym w.1) (passed s l.left l.i (search rules) w.0.left l.invariant.1))
-          c.if-table-i.branch,
+      elim c.if-table-i.branch [
+        | then-table-i w ↦ subst (λ (n : ℕ). Sought s n (l.i + 1)) (sym w.left-is) (found s l.left l.i (search rules) w.if-table-i.true l.invariant.1)
+        | else-table-i w ↦ subst (λ (n : ℕ). Sought s n (l.i + 1)) (sym w.left-is) (passed s l.left l.i (search rules) w.if-table-i.false l.invariant.1)
+      ],
     )
 
 pub returns : goal.returns

@@ -2,7 +2,6 @@ use mathlib.Core.Path.{◌≡◌, refl, sym}
 use mathlib.Core.Option.{Option, none, some}
 use Prim.Native.Nat.{ℕ, ◌%◌}
 use native.Mathlib.Omega.{arith}
-use borrow.Author.Rules.{rules}
 use borrow.Author.Tests.{ne_eqb, lt-ltb}
 use lib.Count.{ones}
 use Rattle.model.specs.Parity.{columns, find, is_odd_lem, uncorrectable, flipped_at, class_of}

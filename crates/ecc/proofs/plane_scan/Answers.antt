@@ -1,7 +1,6 @@
 use mathlib.Core.Path.{ap, ◌∙◌}
 use mathlib.Core.List.{List}
 use Prim.Native.Nat.{ℕ}
-use borrow.Author.Rules.{rules}
 use Rattle.ecc.specs.CheckTable.{slice_scan_with}
 use Rattle.ecc.proofs.CheckTableLaw.{table_scan}
 use Rattle.ecc.proofs.plane_scan.Goals as goal

@@ -1,7 +1,6 @@
 use mathlib.Core.Path.{ap, ◌∙◌}
 use mathlib.Core.Option.{some}
 use native.Mathlib.Omega.{arith}
-use borrow.Author.Rules.{rules}
 use Rattle.ecc.proofs.PlaneLaw.{word_past, word_there, decoded}
 use Rattle.ecc.proofs.plane_word.Goals as goal
 

@@ -1,6 +1,5 @@
 use mathlib.Core.Path.{ap, ◌∙◌}
 use Prim.Native.Nat.{ℕ}
-use borrow.Author.Rules.{rules}
 use lib.Bits.{bit_xor}
 use Rattle.model.specs.Parity.{class_of, outcome_as}
 use Rattle.ecc.specs.CheckTable.{decode_with, outcome_with}

@@ -1,9 +1,8 @@
 use mathlib.Core.Path.{◌≡◌, ap, ◌∙◌, subst, sym}
-use Prim.Native.Nat.{ℕ, ◌+◌, ◌-◌, ◌*◌, ◌%◌, ◌^◌, ◌≤◌}
+use Prim.Native.Nat.{ℕ, ◌+◌, ◌*◌, ◌%◌, ◌^◌}
 use native.Mathlib.Nat.{pow-suc}
 use native.Mathlib.Numerals.{add-one}
 use native.Mathlib.Omega.{arith}
-use borrow.Author.Rules.{rules}
 use lib.Bits.{bit_xor}
 use Rattle.model.specs.Bytes.{at}
 use Rattle.ecc.specs.CheckTable.{entry_at, Filled}
@@ -21,7 +20,7 @@ pub loop-j-preserved : goal.loop-j-preserved
 loop-j-preserved c =
     let l = c.loop-j in
     let g = c.args in
-    let t = l.table-1 in
+    let t = l.table in
     let n : 256 * g.k + 2 ^ g.i + (l.j + 1) ≡ 256 * g.k + 2 ^ g.i + l.j + 1 = omega arith in (
       l.invariant.0,
       l.invariant.1,
@@ -38,7 +37,7 @@ returns c =
     let l = c.loop-j in
     let g = c.args in
     let n : 256 * g.k + (1 * 2 ^ g.i) % 2 ^ 64 + l.j ≡ 256 * g.k + 2 ^ (g.i + 1) = omega (arith, pow-suc 2 g.i, ap (λ (i : ℕ). 2 ^ i) (add-one g.i)) in
-    subst (λ (m : ℕ). Filled m l.table-1) n l.invariant.3
+    subst (λ (m : ℕ). Filled m l.table) n l.invariant.3
 
 pub overflow_add-table : goal.overflow_add-table
 overflow_add-table c = omega arith

@@ -1,9 +1,5 @@
-use mathlib.Core.Path.{◌≡◌, refl, subst}
-use Prim.Native.Nat.{ℕ, ◌-◌, ◌*◌, ◌≤◌}
-use native.Mathlib.Omega.{arith}
-use Rattle.model.specs.Parity.{columns}
+use Prim.Native.Nat.{◌-◌, ◌*◌, ◌≤◌}
 use Rattle.ecc.specs.CheckTable.{Filled}
-use Rattle.ecc.proofs.CheckTableLaw.{empty, all_filled}
 use Rattle.ecc.proofs.check_table.fill_check_table.Given as goal
 
 -- `ecc::check_table::fill_check_table` meets its contract. The invariant: the places passed are filled. Assumes nothing.

@@ -1,6 +1,6 @@
 use mathlib.Core.Path.{◌≡◌, ap, subst}
 use mathlib.Core.List.{List}
-use Prim.Native.Nat.{ℕ, ◌+◌, ◌-◌, ◌*◌, ◌^◌, ◌≤◌}
+use Prim.Native.Nat.{ℕ, ◌+◌, ◌*◌, ◌^◌}
 use native.Mathlib.Omega.{arith}
 use Rattle.model.specs.Bytes.{at}
 use Rattle.ecc.specs.CheckTable.{Filled}

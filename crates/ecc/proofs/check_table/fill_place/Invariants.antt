@@ -1,10 +1,5 @@
-use mathlib.Core.Path.{◌≡◌, ap, subst}
-use mathlib.Core.List.{List}
-use Prim.Native.Nat.{ℕ, ◌+◌, ◌-◌, ◌*◌, ◌^◌, ◌≤◌}
-use native.Mathlib.Omega.{arith}
-use Rattle.model.specs.Bytes.{at}
+use Prim.Native.Nat.{◌+◌, ◌-◌, ◌*◌, ◌^◌, ◌≤◌}
 use Rattle.ecc.specs.CheckTable.{Filled}
-use Rattle.ecc.proofs.CheckTableLaw.{first, put}
 use Rattle.ecc.proofs.check_table.fill_place.Given as goal
 
 -- `ecc::check_table::fill_place` meets its contract. The invariant: the table is filled up to byte 2 ^ i of the place. Assumes nothing.

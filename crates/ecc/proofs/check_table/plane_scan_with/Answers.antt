@@ -1,6 +1,5 @@
 use mathlib.Core.Path.{◌≡◌, sym, ap, ◌∙◌, subst}
-use mathlib.Core.Logic.{⊎_elim}
-use Prim.Native.Nat.{ℕ, ◌-◌, ◌≤◌, ◌<◌}
+use Prim.Native.Nat.{ℕ, ◌<◌}
 use native.Mathlib.Omega.{arith}
 use borrow.Author.Rules.{rules}
 use Rattle.model.specs.Parity.{class_of}
@@ -8,6 +7,7 @@ use Rattle.model.specs.Scan.{is_corrected, is_uncorrectable, slice_words}
 use Rattle.model.proofs.ParityLaw.{class_zero}
 use Rattle.ecc.proofs.PlaneLaw.{syndrome_read, Counted, turn, scanned}
 use Rattle.ecc.proofs.check_table.plane_scan_with.Goals as goal
+use Rattle.ecc.proofs.check_table.plane_scan_with.Goals.{then-syndrome-ne0, else-syndrome-ne0}
 
 pub loop-w-preserved : goal.loop-w-preserved
 loop-w-preserved c =
@@ -19,24 +19,22 @@ loop-w-preserved c =
     let v = c.u64_or_zero-word.result in
     let h : w < slice_words x y = omega (arith, c.plane_words-words.ensures.0) in
     let d = syndrome_read x y w v (omega arith) c.u64_or_zero-word.ensures table c.check_byte_with.ensures in
-    ⊎_elim
-    (λ t.
-    let o = t.1 in (
-      search rules,
-      omega (arith, t.2, o.ensures.2),
-      omega (arith, t.3),
-      turn table x y is_corrected w c.loop-w.corrected c.if-syndrome-ne0.corrected h (omega (arith, t.2, o.ensures.0, ap is_corrected d)) c.loop-w.invariant.3,
-      turn table x y is_uncorrectable w c.loop-w.uncorrectable c.if-syndrome-ne0.uncorrectable h (omega (arith, t.3, o.ensures.1, ap is_uncorrectable d)) c.loop-w.invariant.4,
-    ))
-    (λ t.
-    let z = sym d ∙ ap class_of t.0.left ∙ class_zero in (
-      search rules,
-      omega arith,
-      omega arith,
-      turn table x y is_corrected w c.loop-w.corrected c.if-syndrome-ne0.corrected h (omega (arith, t.1, ap is_corrected z)) c.loop-w.invariant.3,
-      turn table x y is_uncorrectable w c.loop-w.uncorrectable c.if-syndrome-ne0.uncorrectable h (omega (arith, t.2, ap is_uncorrectable z)) c.loop-w.invariant.4,
-    ))
-    c.if-syndrome-ne0.branch
+    elim c.if-syndrome-ne0.branch [
+      | then-syndrome-ne0 t ↦ let o = t.one_if_corrected-one in (
+        search rules,
+        omega (arith, t.corrected-is, o.ensures.2),
+        omega (arith, t.uncorrectable-is),
+        turn table x y is_corrected w c.loop-w.corrected c.if-syndrome-ne0.corrected h (omega (arith, t.corrected-is, o.ensures.0, ap is_corrected d)) c.loop-w.invariant.3,
+        turn table x y is_uncorrectable w c.loop-w.uncorrectable c.if-syndrome-ne0.uncorrectable h (omega (arith, t.uncorrectable-is, o.ensures.1, ap is_uncorrectable d)) c.loop-w.invariant.4,
+      )
+      | else-syndrome-ne0 t ↦ let z = sym d ∙ ap class_of t.if-syndrome-ne0.false ∙ class_zero in (
+        search rules,
+        omega arith,
+        omega arith,
+        turn table x y is_corrected w c.loop-w.corrected c.if-syndrome-ne0.corrected h (omega (arith, t.corrected-is, ap is_corrected z)) c.loop-w.invariant.3,
+        turn table x y is_uncorrectable w c.loop-w.uncorrectable c.if-syndrome-ne0.uncorrectable h (omega (arith, t.uncorrectable-is, ap is_uncorrectable z)) c.loop-w.invariant.4,
+      )
+    ]
 
 pub returns : goal.returns
 returns c =

@@ -1,12 +1,6 @@
-use mathlib.Core.Path.{◌≡◌, sym, ap, ◌∙◌, subst}
-use mathlib.Core.Logic.{⊎_elim}
-use Prim.Native.Nat.{ℕ, ◌-◌, ◌≤◌, ◌<◌}
-use native.Mathlib.Omega.{arith}
-use borrow.Author.Rules.{rules}
-use Rattle.model.specs.Parity.{class_of}
-use Rattle.model.specs.Scan.{is_corrected, is_uncorrectable, slice_words}
-use Rattle.model.proofs.ParityLaw.{class_zero}
-use Rattle.ecc.proofs.PlaneLaw.{syndrome_read, Counted, turn, scanned}
+use Prim.Native.Nat.{◌-◌, ◌≤◌}
+use Rattle.model.specs.Scan.{is_corrected, is_uncorrectable}
+use Rattle.ecc.proofs.PlaneLaw.{Counted}
 use Rattle.ecc.proofs.check_table.plane_scan_with.Given as goal
 
 -- `ecc::check_table::plane_scan_with` meets its contract. The invariant: what was counted, with the count of the words to come, is the report's.
