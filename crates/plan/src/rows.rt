@@ -27,7 +27,7 @@ const FLAGS_UNIT: u64 = 1 << 16;
 const WORDS_UNIT: u64 = 1 << 32;
 
 #[repr(C)]
-#[derive(Drop)]
+#[derive(Clone, Copy)]
 pub struct Row {
     pub kind: u16,
     pub flags: u16,
