@@ -7,7 +7,7 @@ mod writing;
 use error::Refusal;
 pub use writing::write;
 
-#[derive(Drop)]
+#[derive(Clone, Copy)]
 pub enum HexResult {
     // The length of what was written or read.
     Done(usize),

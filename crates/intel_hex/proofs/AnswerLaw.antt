@@ -1,14 +1,14 @@
 -- What writing comes to in each of its cases. Assumes nothing.
 use Rattle.std.proofs.Common.{◌≡◌, ℕ, ◌+◌, ◌<◌, ◌≤◌, Bool, ltb, List, [], ◌++◌, length, drop, sym, refl, ap, ◌∙◌, subst, zero-le, arith, le-ltb, lt-ltb}
-use lib.Seq.{sets, sets-eq}
+use lib.Seq.{sets-eq}
 use Rattle.model.specs.Refusals.{too_large_lem, no_room_lem, Verdict, fine, refuse, ◌then◌, refuse_if}
 use Rattle.model.specs.Hex.{Outcome, hex_text, if_fine, write_verdict, hex_write}
 use Rattle.error.specs.declared.Refusal.{Refusal}
 use Rattle.error.specs.Refused.{as_verdict}
 use Rattle.put.specs.Put.{Put}
-use Rattle.hex.specs.declared.HexResult.{HexResult}
-use Rattle.hex.specs.declared.HexResult.TheVariants.{Done, Refused}
-use Rattle.hex.specs.Answers.{as_hex, answer_of, filled, done_length}
+use Rattle.intel_hex.specs.declared.HexResult.{HexResult}
+use Rattle.intel_hex.specs.declared.HexResult.TheVariants.{Done, Refused}
+use Rattle.intel_hex.specs.Answers.{as_hex, answer_of, filled, done_length}
 
 -- the three clauses of a public function: its answer, its buffer, and that a length lies in the buffer
 abbrev pub Told : Outcome → HexResult → List ℕ → List ℕ → Type 0

@@ -3,8 +3,8 @@ ghost use Rattle.std.specs.Prelude.{◌≡◌, ◌+◌, ◌-◌, ◌/◌, ◌%�
 ghost use Rattle.model.specs.Programs.{lines};
 ghost use Rattle.model.specs.Hex.{upper_lines, hex_text, hex_write};
 ghost use Rattle.put.specs.Put.{Put};
-ghost use Rattle.hex.specs.Answers.{as_hex, answer_of, filled, done_length};
-ghost use Rattle.hex.specs.Steps.{line_end, text_length};
+ghost use Rattle.intel_hex.specs.Answers.{as_hex, answer_of, filled, done_length};
+ghost use Rattle.intel_hex.specs.Steps.{line_end, text_length};
 
 use crate::HexResult;
 use crate::record::put_record;

@@ -5,9 +5,9 @@ use Rattle.model.specs.Programs.{lines}
 use Rattle.model.specs.Hex.{record_line, data_type, end_type, upper_type, upper_lines, end_line, hex_text}
 use Rattle.put.specs.Put.{Put}
 use Rattle.put.proofs.PutLaw.{Going, begin, go_on, fits, last}
-use Rattle.hex.specs.Steps.{line_end}
+use Rattle.intel_hex.specs.Steps.{line_end}
 use Rattle.hex_laws.proofs.HexLength.{text_upper, text_no_upper, text_from, text_start, text_step, text_end}
-use Rattle.hex.proofs.RecordLaw.{line_of, length_line}
+use Rattle.intel_hex.proofs.RecordLaw.{line_of, length_line}
 
 -- the line of the sixteen bytes, or fewer, from address a on
 abbrev pub line_from : List ℕ → ℕ → List ℕ

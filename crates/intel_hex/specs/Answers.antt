@@ -3,8 +3,8 @@ use Rattle.std.specs.Prelude.{ℕ, List, ◌++◌, length, drop}
 use Rattle.model.specs.Refusals.{Verdict, fine, refuse}
 use Rattle.model.specs.Hex.{Outcome}
 use Rattle.error.specs.Refused.{number_of, detail_of}
-use Rattle.hex.specs.declared.HexResult.{HexResult}
-use Rattle.hex.specs.declared.HexResult.TheVariants.{Done, Refused}
+use Rattle.intel_hex.specs.declared.HexResult.{HexResult}
+use Rattle.intel_hex.specs.declared.HexResult.TheVariants.{Done, Refused}
 
 -- a length, or a refusal
 pub data HexAnswer : Type 0 where

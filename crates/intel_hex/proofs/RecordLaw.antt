@@ -1,5 +1,5 @@
 -- Pairs of digits put one after the other, and a record's sum. Assumes nothing.
-use Rattle.std.proofs.Common.{◌≡◌, ℕ, suc, ◌+◌, ◌-◌, ◌*◌, ◌/◌, ◌%◌, ◌<◌, ◌≤◌, List, [], ◌∷◌, ◌++◌, length, get_or, drop, set, sym, refl, ap, ◌∙◌, subst, ap₂, append_assoc, zero-le, add-one, arith, length-append, drop_of_length-le, drop-cons}
+use Rattle.std.proofs.Common.{◌≡◌, ℕ, ◌+◌, ◌-◌, ◌*◌, ◌/◌, ◌%◌, ◌<◌, ◌≤◌, List, [], ◌∷◌, ◌++◌, length, get_or, drop, set, sym, refl, ap, ◌∙◌, subst, ap₂, append_assoc, zero-le, add-one, arith, length-append, drop_of_length-le, drop-cons}
 use Rattle.model.specs.Hex.{digit_of, pairs_of, total, record_bytes, sum_byte, record_line}
 use Rattle.hex_laws.proofs.HexLength.{length_pairs, text_length_lem}
 use Rattle.hex_laws.proofs.HexLines.{total_append}
