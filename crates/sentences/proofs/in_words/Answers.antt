@@ -1,4 +1,3 @@
--- `sentences::in_words` meets its contract: each line is its refusal's sentence, by computation. Assumes nothing.
 use mathlib.Core.Path.{◌≡◌, refl}
 use mathlib.Core.Bool.{true}
 use mathlib.Core.List.{List}
@@ -14,9 +13,9 @@ use Rattle.error.specs.declared.Refusal.TheVariants.{Truncated, BadMagic, Foreig
 use Rattle.error.specs.Refused.{number_of, detail_of}
 use Rattle.sentences.specs.Sentences.{sentence}
 use Rattle.sentences.specs.Lines.{place, line_start, line, filled, Tells}
-use Rattle.sentences.proofs.in_words.Statement.{statement}
-use Rattle.sentences.proofs.in_words.Tie as tie
+use Rattle.sentences.proofs.in_words.Goals as goal
 
+-- `sentences::in_words` meets its contract: each line is its refusal's sentence, by computation. Assumes nothing.
 -- what holds of each refusal holds of all
 module _ (P : Refusal → Type 0)
     (p1 : P Truncated) (p2 : P BadMagic) (p3 : P ForeignEndian) (p4 : (d : ℕ) → P (UnsupportedVersion d)) (p5 : P BadPrologueChecksum) (p6 : (d : ℕ) → P (TooManyRegions d)) (p7 : (d : ℕ) → P (RegionOutOfBounds d))
@@ -42,24 +41,17 @@ module _ (P : Refusal → Type 0)
 tells : (t : List ℕ) (r : Refusal) → filled (detail_of r) (line (number_of r) t) ≡ sentence r → leb (length (line (number_of r) t)) 100 ≡ true → Tells t r
 tells t r e h = record { says = e; short = leb-true _ _ h }
 
-put-line-requires : tie.Need-put-line-requires
+pub put_line-requires : goal.put_line-requires
 unfolding sentence text place line_start filled
-put-line-requires c κs = (
-  each (Tells _)
+put_line-requires c = record {
+  told = each (Tells _)
       (tells _ _ refl refl) (tells _ _ refl refl) (tells _ _ refl refl) (λ d. tells _ _ refl refl) (tells _ _ refl refl) (λ d. tells _ _ refl refl) (λ d. tells _ _ refl refl)
-      (λ d. tells _ _ refl refl) (tells _ _ refl refl) (tells _ _ refl refl) (tells _ _ refl refl) (λ d. tells _ _ refl refl) (tells _ _ refl refl) (λ d. tells _ _ refl refl) (λ d. tells _ _ refl refl) (λ d. tells _ _ refl refl) _,
-  omega arith,
-)
+      (λ d. tells _ _ refl refl) (tells _ _ refl refl) (tells _ _ refl refl) (tells _ _ refl refl) (λ d. tells _ _ refl refl) (tells _ _ refl refl) (λ d. tells _ _ refl refl) (λ d. tells _ _ refl refl) (λ d. tells _ _ refl refl) _;
+  room = omega arith;
+}
 
-returns : tie.Need-returns
+pub returns : goal.returns
 returns c =
-    let all = c.put-line in
-    let n : all.result ≡ length (sentence c.before.before.before.before.args.refusal) = omega (arith, all.ensures.0.behind) in
-    (n, (all.ensures.0.stored, (prefix_len_of_le _ _ (omega (arith, all.ensures.1, all.ensures.0.long)), all.ensures.1)))
-
-pub in_words_spec : {M : Type 1} → statement M
-in_words_spec =
-    tie.close
-    (tie.spec
-    put-line-requires
-    returns)
+    let all = c.put_line in
+    let n : all.result ≡ length (sentence c.args.refusal) = omega (arith, all.ensures.is.behind) in
+    record { is = n; leaves = all.ensures.is.stored; fits = prefix_len_of_le _ _ (omega (arith, all.ensures.few, all.ensures.is.long)); few = all.ensures.few }
