@@ -128,6 +128,28 @@ def as_record(body, clauses):
     return t[:i] + "record { " + "; ".join(f"{c} = {p}" for c, p in zip(clauses, parts)) + " }"
 
 
+def clause_names():
+    """The names of the `ensures` of each function that has several, by its last two names and its last."""
+    found = {}
+    for root, dirs, fs in os.walk("crates"):
+        dirs[:] = [d for d in dirs if d != "out"]
+        for f in fs:
+            if f.endswith(".rt"):
+                name, got = None, []
+                for line in open(os.path.join(root, f), encoding="utf-8"):
+                    m = re.match(r"\s*(?:pub(?:\(\w+\))? )?(?:const )?(?:extern \"C\" )?fn (\w+)", line)
+                    if m:
+                        name, got = m.group(1), []
+                    m = re.match(r"\s*ensures (\w+) \{", line)
+                    if m and name:
+                        got.append(m.group(1))
+                        found[(root.split("/")[1], name)] = got
+    return found
+
+
+CLAUSES = clause_names()
+
+
 class Turn:
     def __init__(self, crate, path, info, said):
         self.crate, self.path, self.info, self.said = crate, path, info, said
@@ -138,7 +160,11 @@ class Turn:
                 if self.fields.get(norm(f), g) != g:
                     said(f"{path}: field {f} is {self.fields[norm(f)]} and {g}")
                 self.fields.setdefault(norm(f), g)
-        self.facts = {}
+        self.facts, self.callees = {}, {}
+        for old, parent, (f, g), callee, facts in info["places"]:
+            if callee:
+                k = callee.split("::")
+                self.callees[g] = CLAUSES.get((k[0], k[-1]))
         for old, parent, (f, g), callee, facts in info["places"]:
             if facts:
                 self.facts.setdefault(g, {}).update(dict(facts))
@@ -171,15 +197,27 @@ class Turn:
         text = re.sub(r"\btie\.(" + NAME + ")", lambda m: "goal." + self.places.get(norm(m.group(1)), m.group(1)), text)
 
         def field(m):
-            return "." + self.fields.get(norm(m.group(1)), m.group(1))
+            n = m.group(1)
+            if n == "pre":
+                return ".requires"
+            if norm(n) not in self.fields and "-" in n and not re.match(r"(in|in_default|if|loop|field|the|new)-", n):
+                return "." + n.replace("-", "_")
+            return "." + self.fields.get(norm(n), n)
 
         text = re.sub(r"\.([A-Za-z_][^\s(){}\[\],.;λ`\"|:=]*)", field, text)
+        for g, names in self.callees.items():
+            for i, n in enumerate(names or []):
+                text = re.sub(r"\." + re.escape(g) + r"\.ensures\." + str(i) + r"(?!\w)", f".{g}.ensures.{n}", text)
+        arm = re.search(r"(?m)^(?:[\w-]*?)(in(?:-|_default)[\w-]*) c\b", text)
+        if arm:
+            text = re.sub(r"\.enum_told[\w-]*\.given\.1(?!\w)", f".{arm.group(1)}.is", text)
         text = self.joins(text)
         for g, facts in self.facts.items():
             if "true" in facts or "false" in facts:
                 for old in ("true", "false"):
                     if old in facts:
                         text = re.sub(r"\." + re.escape(g) + r"\." + old + r"(?![\w-])", f".{g}.{facts[old]}", text)
+        text = re.sub(r"\(not-(?:true|false) [\w.-]+ ([\w.-]+\.(?:true|false))-raw\)", r"\1", text)
         return text
 
     def joins(self, text):
@@ -277,6 +315,13 @@ class Turn:
                 asked = self.info["asked"].get(g) or self.info["asked"].get(m.group(1))
                 if asked and len(asked) > 1:
                     r = as_record(body, asked)
+                    if not r and len(asked) == 3:  # a pair in a pair
+                        outer = as_record(body, ["a", "b"])
+                        k = outer.rfind("; b = ") if outer else -1
+                        if k > 0:
+                            inner = as_record("= " + outer[k + 6:-2], asked[1:])
+                            if inner:
+                                r = outer[:k].replace("record { a = ", f"record {{ {asked[0]} = ", 1) + "; " + inner[len("= record { "):]
                     if r:
                         body = r
                     else:

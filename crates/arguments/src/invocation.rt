@@ -29,7 +29,7 @@ const OUTPUT_NEXT: u8 = 1;
 const NAMES_ONLY: u8 = 2;
 
 // Arguments are named by their numbers, with 0 for none.
-#[derive(Drop)]
+#[derive(Clone, Copy)]
 pub struct Invocation {
     pub command: u8,
     // The command that help is asked for.

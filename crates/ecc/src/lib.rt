@@ -51,7 +51,7 @@ pub fn check_byte(data: u64) -> u8
 }
 
 // What a word and its check byte say.
-#[derive(Drop)]
+#[derive(Clone, Copy)]
 pub enum WordStatus {
     Clean(u64),
     Corrected(u64),
@@ -110,7 +110,7 @@ pub fn decode_word(data: u64, check: u8) -> WordStatus
 }
 
 // What a scan found: words examined, words with a corrected fault, words that no single flipped bit explains.
-#[derive(Drop)]
+#[derive(Clone, Copy)]
 pub struct EccReport {
     pub words: usize,
     pub corrected: usize,
@@ -134,7 +134,7 @@ impl EccReport {
 }
 
 // One word of a plane's region, or nothing where the index lies outside the region or the plane.
-#[derive(Drop)]
+#[derive(Clone, Copy)]
 pub enum PlaneWord {
     Word(WordStatus),
     Nothing,

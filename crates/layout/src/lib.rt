@@ -103,7 +103,7 @@ impl Region {
 }
 
 // A number, or nothing where a usize does not hold it.
-#[derive(Drop)]
+#[derive(Clone, Copy)]
 pub enum Size {
     Of(usize),
     Nothing,

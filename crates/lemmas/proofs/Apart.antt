@@ -42,6 +42,7 @@ disjoint_sym e f d i a b c g = d i c g a b
 
 not_meets_any : (e : Entry) (fs : List Entry) → meets_any_lem e fs ≡ false → (f : Entry) → In f fs → Disjoint e f
 unfolding meets_any_lem
+not_meets_any e [] h f m = elim m [ ]
 not_meets_any e (g ∷ fs) h f (now p) = subst (Disjoint e) (sym p) (not_meets e g (or_left (meets e g) (meets_any_lem e fs) h))
 not_meets_any e (g ∷ fs) h f (next i) = not_meets_any e fs (or_right (meets e g) (meets_any_lem e fs) h) f i
 

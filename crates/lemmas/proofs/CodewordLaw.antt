@@ -19,6 +19,7 @@ among_append (p ∷ x) y (later m) = go (among_append x y m)
     go (inr i) = inr i
 
 pub among_left : (xs ys : List Codeword) {q c : ℕ} → Among q c xs → Among q c (xs ++ ys)
+among_left [] ys m = elim m [ ]
 among_left (p ∷ xs) ys (here e f) = here e f
 among_left (p ∷ xs) ys (later m) = later (among_left xs ys m)
 

@@ -24,6 +24,7 @@ pub data In (e : Entry) : List Entry → Type 0 where
   next : {f : Entry} {fs : List Entry} → In e fs → In e (f ∷ fs)
 
 pub in_left : {e : Entry} (es fs : List Entry) → In e es → In e (es ++ fs)
+in_left [] fs m = elim m [ ]
 in_left (f ∷ es) fs (now p) = now p
 in_left (f ∷ es) fs (next m) = next (in_left es fs m)
 
@@ -49,11 +50,13 @@ entries_fine len i es (cons {e = e} {es = fs} h n r) =
     (passes (among e.kind fs) 8 e.kind (entries_verdict len (suc i) fs) n (entries_fine len (suc i) fs r))
 
 pub ends : (len : ℕ) {es : List Entry} → EntriesOK len es → (e : Entry) → In e es → end e ≤ len
+ends len nil e m = elim m [ ]
 ends len (cons h n r) e (now p) = subst (λ (m : ℕ). m ≤ len) (sym (ap (λ (z : Entry). end z) p)) h
 ends len (cons h n r) e (next m) = ends len r e m
 
 pub other_kind : (k : ℕ) (es : List Entry) → among k es ≡ false → (e : Entry) → In e es → e.kind ≡ k → ⊥
 unfolding among
+other_kind k [] h e m g = elim m [ ]
 other_kind k (f ∷ es) h e (now p) g = eqb-false f.kind k (or_left (eqb f.kind k) (among k es) h) (sym (ap (λ (z : Entry). z.kind) p) ∙ g)
 other_kind k (f ∷ es) h e (next m) g = other_kind k es (or_right (eqb f.kind k) (among k es) h) e m g
 

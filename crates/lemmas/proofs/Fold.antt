@@ -219,6 +219,7 @@ module _ (len : ℕ) where
   pub all_fixed : (x : List ℕ) {ps : List Codeword} → Bytes x → length x ≡ len → AllApart len ps → (q c : ℕ) → Among q c ps
       → (word_at (fix_all ps x) q ≡ fixed_word (word_at x q) (at x c)) × (at (fix_all ps x) c ≡ fixed_check (word_at x q) (at x c))
   unfolding fix_all
+  all_fixed x b e nil q c m = elim m [ ]
   all_fixed x b e (cons {p = p} {ps = ps} s f r) q c (here g h) =
       let t : Inside (length x) p = subst (λ (k : ℕ). Inside k p) (sym e) s in
       let x' : List ℕ = fix_at p x in
@@ -254,6 +255,7 @@ apart_right (p ∷ xs) ys (cons s f r) = apart_right xs ys r
 
 -- no check byte lies in a word
 pub check_out : {len : ℕ} {ps : List Codeword} → AllApart len ps → (q c q' c' : ℕ) → Among q c ps → Among q' c' ps → q' ≡ c / 8 → ⊥
+check_out nil q c q' c' m m' h = elim m [ ]
 check_out (cons s f r) q c q' c' (here e g) (here e' g') h = s.self (ap (λ (n : ℕ). n / 8) g ∙ sym h ∙ sym e')
 check_out (cons s f r) q c q' c' (here e g) (later m) h = (f q' c' m).here_there (ap (λ (n : ℕ). n / 8) g ∙ sym h)
 check_out (cons s f r) q c q' c' (later m) (here e' g') h = (f q c m).there_here (sym h ∙ sym e')

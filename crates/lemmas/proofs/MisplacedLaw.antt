@@ -66,6 +66,7 @@ meets_some e (g ∷ fs) h = go (meets e g) refl h (λ k. meets_some e fs k)
 
 meets_any : (e : Entry) (fs : List Entry) (f : Entry) → In f fs → meets e f ≡ true → meets_any_lem e fs ≡ true
 unfolding meets_any_lem
+meets_any e [] f i m = elim i [ ]
 meets_any e (g ∷ fs) f (now p) m = rw (sym (ap (meets e) p) ∙ m) refl
 meets_any e (g ∷ fs) f (next i) m = or_true (meets e g) (meets_any_lem e fs) (meets_any e fs f i m)
 

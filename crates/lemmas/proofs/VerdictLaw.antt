@@ -24,7 +24,7 @@ pub or_none : (a b : Bool) → a ≡ false → b ≡ false → a || b ≡ false
 or_none a b e g = rw (e, g)
 
 pub or_true : (a b : Bool) → b ≡ true → a || b ≡ true
-or_true a b e = ap (λ (t : Bool). a || t) e ∙ bool.or_true a
+or_true a b e = ap (λ (t : Bool). a || t) e ∙ bool.or-true a
 
 pub and_false : (a b : Bool) → b ≡ false → a && b ≡ false
-and_false a b e = ap (λ (t : Bool). a && t) e ∙ bool.and_false a
+and_false a b e = ap (λ (t : Bool). a && t) e ∙ bool.and-false a

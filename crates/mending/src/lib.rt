@@ -18,14 +18,14 @@ use view::Header;
 use words::mend_words;
 
 // What was found before anything was written, how many bytes changed, and whether no word is left uncorrectable.
-#[derive(Drop)]
+#[derive(Clone, Copy)]
 pub struct Mending {
     pub report: ScanResult,
     pub stored: usize,
     pub whole: bool,
 }
 
-#[derive(Drop)]
+#[derive(Clone, Copy)]
 pub enum MendResult {
     Mended(Mending),
     Refused(Refusal),

@@ -17,7 +17,7 @@ use view::{Header, ParseResult, RegionAt, parse, region_at};
 
 // The header of an image whose regions lie apart; or the first misplaced entry, with what it lies on: the header, or else
 // the lowest earlier entry that it shares a byte with; or parse's refusal.
-#[derive(Drop)]
+#[derive(Clone, Copy)]
 pub enum Placement {
     Apart(Header),
     OnHeader { index: u16 },
@@ -29,7 +29,7 @@ pub enum Placement {
 type SpanTable = [u32; 2 * MAX_REGIONS];
 
 // What one entry lies on.
-#[derive(Drop)]
+#[derive(Clone, Copy)]
 enum Overlap {
     Nothing,
     Header,

@@ -27,7 +27,7 @@ const FLAGS_UNIT: u64 = 1 << 16;
 const WORDS_UNIT: u64 = 1 << 32;
 
 #[repr(C)]
-#[derive(Drop)]
+#[derive(Clone, Copy)]
 pub struct Row {
     pub kind: u16,
     pub flags: u16,
@@ -35,7 +35,7 @@ pub struct Row {
 }
 
 // What the rows so far say: the number of their regions, or the first refusal.
-#[derive(Drop)]
+#[derive(Clone, Copy)]
 pub enum Checked {
     Fine(usize),
     Refused(Refusal),

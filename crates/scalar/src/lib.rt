@@ -8,25 +8,25 @@ ghost use Rattle.model.specs.Bytes.{read, read_in, le_bytes};
 ghost use Rattle.model.specs.Layout as model;
 ghost use Rattle.scalar.specs.Answers.{as_model8, as_model16, as_model32, as_model64, or_zero};
 
-#[derive(Drop)]
+#[derive(Clone, Copy)]
 pub enum U8At {
     Value(u8),
     Nothing,
 }
 
-#[derive(Drop)]
+#[derive(Clone, Copy)]
 pub enum U16At {
     Value(u16),
     Nothing,
 }
 
-#[derive(Drop)]
+#[derive(Clone, Copy)]
 pub enum U32At {
     Value(u32),
     Nothing,
 }
 
-#[derive(Drop)]
+#[derive(Clone, Copy)]
 pub enum U64At {
     Value(u64),
     Nothing,

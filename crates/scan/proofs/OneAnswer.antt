@@ -1,6 +1,5 @@
 -- No two answers fit one promise. (`as_scan` and `as_totals` tell every two apart.) Assumes nothing.
 use mathlib.Core.Path.{◌≡◌, refl, ap}
-use Rattle.model.specs.Scan.{Report}
 use Rattle.model.proofs.OneAnswer.{OneAnswer, agree}
 use Rattle.ecc.specs.Answers.{as_report}
 use Rattle.ecc.proofs.OneAnswer.{one_report}

@@ -22,7 +22,7 @@ pub use tally::{Tally, add_word, empty_tally, scan_result, visit};
 use view::Header;
 
 // A report, or nothing where no region was visited, which is not a clean scan.
-#[derive(Drop)]
+#[derive(Clone, Copy)]
 pub enum ScanResult {
     Report(EccReport),
     Nothing,

@@ -11,7 +11,7 @@ use tables::{PartSpan, Place, region_span};
 use view::{Header, RegionAt, ecc_for, region_at};
 
 // `words` words from word `word` on, with check bytes from byte `check` on. A region with a plane is visited, even without words.
-#[derive(Drop)]
+#[derive(Clone, Copy)]
 pub struct ProtectedRun {
     pub visited: bool,
     pub word: usize,

@@ -9,7 +9,7 @@ use super::ScanResult;
 use ecc::{EccReport, WordStatus};
 
 // The report so far, and whether any region was visited.
-#[derive(Drop)]
+#[derive(Clone, Copy)]
 pub struct Tally {
     pub any: bool,
     pub report: EccReport,

@@ -17,5 +17,5 @@ module _ {X : Type 0} (start : X → ℕ) (bytes : X → List ℕ) (lent r : Bor
   pub carried : x ≡ y → PartAt lent r (start x) (bytes x) → PartAt lent r (start y) (bytes y)
   carried e p = subst (λ (z : X). PartAt lent r (start z) (bytes z)) e p
 
-  pub cut : x ≡ y → r.ref_ptr.0 ≡ lent.ptr.0 → r.ref_ptr.1 ≡ start x + lent.ptr.1 → r.now ≡ bytes x → PartAt lent r (start y) (bytes y)
-  cut e block offset holds = carried e (record { block = block; offset = offset ∙ add_comm (start x) lent.ptr.1; holds = holds })
+  pub cut : x ≡ y → r.ref_ptr.0 ≡ lent.ref_ptr.0 → r.ref_ptr.1 ≡ start x + lent.ref_ptr.1 → r.now ≡ bytes x → PartAt lent r (start y) (bytes y)
+  cut e block offset holds = carried e (record { block = block; offset = offset ∙ add_comm (start x) lent.ref_ptr.1; holds = holds })

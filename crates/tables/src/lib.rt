@@ -11,14 +11,14 @@ use error::Refusal;
 use layout::Region;
 
 // Where a part of the bytes starts and ends, or why there is none.
-#[derive(Drop)]
+#[derive(Clone, Copy)]
 pub enum PartSpan {
     Bytes { start: usize, end: usize },
     Refused(Refusal),
 }
 
 // Where a part of the bytes starts and ends, or nothing.
-#[derive(Drop)]
+#[derive(Clone, Copy)]
 pub enum Place {
     At { start: usize, end: usize },
     Nothing,

@@ -15,7 +15,7 @@ use layout::{
 };
 
 // An accepted image's number of regions, and which header copies disagreed with their vote.
-#[derive(Drop)]
+#[derive(Clone, Copy)]
 pub struct Header {
     pub region_count: u16,
     pub prologue_disagreed: bool,
@@ -31,14 +31,14 @@ impl Header {
     }
 }
 
-#[derive(Drop)]
+#[derive(Clone, Copy)]
 pub enum ParseResult {
     Parsed(Header),
     Refused(Refusal),
 }
 
 // What a run of checks says, with the number of regions where nothing is refused.
-#[derive(Drop)]
+#[derive(Clone, Copy)]
 pub(crate) enum Counted {
     Count(u16),
     Refuse(Refusal),

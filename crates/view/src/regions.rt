@@ -10,7 +10,7 @@ use crate::vote::{entry_u16, voted_region};
 use layout::{FLAG_IS_ECC, Region, header_length};
 use tables::Place;
 
-#[derive(Drop)]
+#[derive(Clone, Copy)]
 pub enum RegionAt {
     Found(Region),
     Nothing,

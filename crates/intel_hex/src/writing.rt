@@ -1,0 +1,106 @@
+// The hex text of a byte string, put into a lent buffer. (FORMAT 15)
+ghost use Rattle.std.specs.Prelude.{◌≡◌, ◌+◌, ◌-◌, ◌/◌, ◌%◌, ◌<◌, ◌≤◌, [], ◌∷◌, length};
+ghost use Rattle.model.specs.Programs.{lines};
+ghost use Rattle.model.specs.Hex.{upper_lines, hex_text, hex_write};
+ghost use Rattle.put.specs.Put.{Put};
+ghost use Rattle.intel_hex.specs.Answers.{as_hex, answer_of, filled, done_length};
+ghost use Rattle.intel_hex.specs.Steps.{line_end, text_length};
+
+use crate::HexResult;
+use crate::record::put_record;
+use error::Refusal;
+use layout::MAX_IMAGE_BYTES;
+
+// The bytes of a line.
+const LINE_BYTES: usize = 16;
+
+// The bytes that have one upper half of the address.
+const HALF: usize = 65536;
+
+const DATA: u8 = 0;
+
+const END: u8 = 1;
+
+const UPPER: u8 = 4;
+
+fn upper_half(address: usize) -> [u8; 2]
+    requires { address < 4294967296 }
+    ensures { result ≡ address / 65536 / 256 ∷ address / 65536 % 256 ∷ [] }
+{
+    let upper = address / HALF;
+    [(upper / 256) as u8, (upper % 256) as u8]
+}
+
+// The line that stands before each further 65,536 bytes.
+fn put_upper(text: &mut [u8], at: usize, address: usize) -> usize
+    requires { (at + length (lines (upper_lines address)) ≤ length text.old) × (address < 4294967296) }
+    ensures { Put text.old at (lines (upper_lines address)) result text.new }
+{
+    if address == 0 {
+        return at;
+    }
+    if address % HALF != 0 {
+        return at;
+    }
+    put_record(text, at, 0, UPPER, &upper_half(address))
+}
+
+// Where a line's bytes end that start at a place.
+fn line_end(from: usize, length: usize) -> usize
+    requires { from < length }
+    ensures is { result ≡ line_end from length }
+    ensures fits { (from ≤ result) × (result ≤ length) × (result ≤ from + 16) }
+{
+    if length - from < LINE_BYTES {
+        length
+    } else {
+        from + LINE_BYTES
+    }
+}
+
+fn put_text(text: &mut [u8], bytes: &[u8]) -> usize
+    requires { (length (hex_text bytes.now) ≤ length text.old) × (length bytes.now ≤ 8388608) }
+    ensures { Put text.old 0 (hex_text bytes.now) result text.new }
+{
+    let mut next: usize = 0;
+    let mut from: usize = 0;
+    while from < bytes.len() {
+        let line = put_upper(text, next, from);
+        let end = line_end(from, bytes.len());
+        next = put_record(text, line, (from % HALF) as u16, DATA, &bytes[from..end]);
+        from += LINE_BYTES;
+    }
+    put_record(text, next, 0, END, b"")
+}
+
+// How often 65,536 bytes are followed by more.
+fn further_halves(n: usize) -> usize
+    ensures { result ≡ (n - 1) / 65536 }
+{
+    if n == 0 {
+        return 0;
+    }
+    (n - 1) / HALF
+}
+
+fn text_length(n: usize) -> usize
+    requires { n ≤ 8388608 }
+    ensures { result ≡ text_length n }
+{
+    12 + 2 * n + 12 * ((n + 15) / LINE_BYTES) + 16 * further_halves(n)
+}
+
+// The text goes to the front of `text`, and the answer is its length; a refusal leaves every byte of `text` as it was.
+pub fn write(bytes: &[u8], text: &mut [u8]) -> HexResult
+    ensures is { as_hex result ≡ answer_of (hex_write bytes.now (length text.old)) }
+    ensures leaves { text.new ≡ filled (hex_write bytes.now (length text.old)) text.old }
+    ensures fits { done_length result ≤ length text.new }
+{
+    if bytes.len() > MAX_IMAGE_BYTES {
+        return HexResult::Refused(Refusal::TooLarge);
+    }
+    if text.len() < text_length(bytes.len()) {
+        return HexResult::Refused(Refusal::NoRoom);
+    }
+    HexResult::Done(put_text(text, bytes))
+}

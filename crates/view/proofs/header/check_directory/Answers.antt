@@ -1,0 +1,10 @@
+use mathlib.Core.Path.{sym}
+use lib.Seq.{length-take-le}
+use Rattle.view.proofs.header.check_directory.Goals as goal
+
+-- `view::header::check_directory` meets its contract. Assumes nothing.
+pub slice_bounds-check_entries_in-end : goal.slice_bounds-check_entries_in-end
+slice_bounds-check_entries_in-end c = sym (length-take-le c.args.n _ c.requires.1)
+
+pub check_entries_in-requires : goal.check_entries_in-requires
+check_entries_in-requires c = (c.requires.0, c.requires.1, length-take-le c.args.n _ c.requires.1)

@@ -1,0 +1,57 @@
+use mathlib.Core.Path.{◌≡◌, sym, ap, ap₂, ◌∙◌, subst}
+use mathlib.Core.List.{List}
+use Prim.Native.Nat.{ℕ, ◌≤◌, ◌<◌}
+use native.Mathlib.Omega.{arith}
+use lib.ListN.{length}
+use mathlib.Core.Option.{none, some}
+use Rattle.model.specs.Layout.{Entry, directory_of, start, end}
+use Rattle.model.specs.Views.{first_that, plane_for}
+use Rattle.view.specs.declared.regions.RegionAt.TheVariants.{Found}
+use Rattle.view.specs.Answers.{found_as}
+use Rattle.model.specs.Views.{range, ecc_for}
+use Rattle.model.specs.Layout.{header_length}
+use Rattle.layout.specs.declared.Region.{Region}
+use Rattle.layout.specs.Regions.{region_of, as_entry}
+use Rattle.view.proofs.AnswersLaw.{found_some, found_none}
+use Rattle.view.proofs.EntriesForLaw.{ecc_short, ecc_none, ecc_past, ecc_there}
+use Rattle.view.proofs.regions.ecc_for.Goals as goal
+
+-- `view::regions::ecc_for` meets its contract. Assumes nothing.
+-- the first plane that covers the kind is handed out as p
+module _ (n : ℕ) (x : List ℕ) (k : ℕ) (h : header_length n ≤ length x) (p : Region) (f : Found p ≡ found_as (first_that (plane_for k) (directory_of n x))) where
+  plane : (e : Entry) × (first_that (plane_for k) (directory_of n x) ≡ some e) × (p ≡ region_of e)
+  plane = found_some (first_that (plane_for k) (directory_of n x)) p f
+
+  ends : end (as_entry p) ≡ end plane.0
+  ends = ap (λ (r : Region). end (as_entry r)) plane.2
+
+  past_end : (b : ℕ) → b ≡ end (as_entry p) → length x < b → none ≡ ecc_for n x k
+  past_end b q l = sym (ecc_past n x k h plane.0 plane.1 (subst (λ (z : ℕ). length x < z) (q ∙ ends) l))
+
+  there : (a b : ℕ) → a ≡ start (as_entry p) → b ≡ end (as_entry p) → b ≤ length x → some (range a b) ≡ ecc_for n x k
+  there a b o q l =
+      ap₂ (λ (i j : ℕ). some (range i j)) (o ∙ ap (λ (r : Region). start (as_entry r)) plane.2) (q ∙ ends)
+      ∙ sym (ecc_there n x k h plane.0 plane.1 (subst (λ (z : ℕ). z ≤ length x) (q ∙ ends) l))
+
+pub returns-then-bytes-header_length : goal.returns-then-bytes-header_length
+returns-then-bytes-header_length c = let g = c.args in sym (ecc_short g.header.region_count g.bytes.now g.region.kind (omega (arith, c.if-bytes-header_length.true, c.header_length.ensures)))
+
+pub returns-then-bytes-end : goal.returns-then-bytes-end
+returns-then-bytes-end c =
+    let g = c.args in
+    past_end g.header.region_count g.bytes.now g.region.kind (omega (arith, c.if-bytes-header_length.false, c.header_length.ensures)) c.in-Found.plane (sym c.in-Found.is ∙ c.plane_of.ensures) _ c.byte_end-end.ensures c.if-bytes-end.true
+
+pub returns-else-bytes-end : goal.returns-else-bytes-end
+returns-else-bytes-end c =
+    let g = c.args in
+    there g.header.region_count g.bytes.now g.region.kind (omega (arith, c.if-bytes-header_length.false, c.header_length.ensures)) c.in-Found.plane (sym c.in-Found.is ∙ c.plane_of.ensures) _ _ c.byte_offset.ensures c.byte_end-end.ensures c.if-bytes-end.false
+
+pub returns-in-Nothing : goal.returns-in-Nothing
+returns-in-Nothing c =
+    let g = c.args in
+    let n = g.header.region_count in
+    let x = g.bytes.now in
+    sym (ecc_none n x g.region.kind (omega (arith, c.if-bytes-header_length.false, c.header_length.ensures)) (found_none (first_that (plane_for g.region.kind) (directory_of n x)) (sym c.in-Nothing.is ∙ c.plane_of.ensures)))
+
+pub plane_of-requires : goal.plane_of-requires
+plane_of-requires c = omega arith
