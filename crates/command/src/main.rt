@@ -9,15 +9,16 @@ mod said;
 
 use arguments::{HELP, Invocation, MEND, VERSION};
 use exit_status::FAILED;
+use failure::Gone;
 use std::process::ExitCode;
 
 fn main(rt: HostRuntime) -> ExitCode {
     let count = asked::count(&rt);
     let invocation = asked::invocation(&rt, count);
-    ExitCode::from(run(&rt, count, invocation))
+    failure::exit_code(run(&rt, count, invocation))
 }
 
-fn run(rt: &HostRuntime, count: usize, invocation: Invocation) -> u8 {
+fn run(rt: &HostRuntime, count: usize, invocation: Invocation) -> Result<u8, Gone> {
     if invocation.fault > 0 {
         return refuse(rt, invocation);
     }
@@ -33,22 +34,22 @@ fn run(rt: &HostRuntime, count: usize, invocation: Invocation) -> u8 {
     report::report(rt, count, invocation.files > 1)
 }
 
-fn refuse(rt: &HostRuntime, invocation: Invocation) -> u8 {
+fn refuse(rt: &HostRuntime, invocation: Invocation) -> Result<u8, Gone> {
     let mut word = io::buffer();
     let n = asked::argument_at_fault(rt, invocation.place, &mut word);
     let mut line = [0u8; 4352];
     let k = messages::fault(invocation.fault, &word[..n], &mut line);
-    said::say(rt, &line[..k]);
-    FAILED
+    said::say(rt, &line[..k])?;
+    Ok(FAILED)
 }
 
-fn help(rt: &HostRuntime, topic: u8) -> u8 {
+fn help(rt: &HostRuntime, topic: u8) -> Result<u8, Gone> {
     let mut text = [0u8; 4352];
     let k = messages::help(topic, &mut text);
     said::print(rt, &text[..k])
 }
 
-fn version(rt: &HostRuntime) -> u8 {
+fn version(rt: &HostRuntime) -> Result<u8, Gone> {
     let mut text = [0u8; 4352];
     let k = messages::version(&mut text);
     said::print(rt, &text[..k])

@@ -1,5 +1,6 @@
 // Memory for an image.
 use exit_status::FAILED;
+use failure::Gone;
 use layout::MAX_IMAGE_BYTES;
 use std::alloc::{AllocError, Global};
 use std::io::Error;
@@ -14,7 +15,7 @@ pub(crate) fn room(alloc: Global) -> Result<Vec<u8>, AllocError> {
     vec![in alloc; 0u8; ROOM]
 }
 
-pub(crate) fn lacking(rt: &HostRuntime) -> u8 {
-    files::fail(rt, b"memory", Error::from_raw_os_error(NO_MEMORY));
-    FAILED
+pub(crate) fn lacking(rt: &HostRuntime) -> Result<u8, Gone> {
+    files::fail(rt, b"memory", Error::from_raw_os_error(NO_MEMORY))?;
+    Ok(FAILED)
 }

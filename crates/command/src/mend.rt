@@ -3,6 +3,7 @@ use crate::asked::argument;
 use crate::memory;
 use arguments::Invocation;
 use exit_status::FAILED;
+use failure::Gone;
 use layout::MAX_IMAGE_BYTES;
 
 // What is said of the image comes last: not before all of it is written.
@@ -12,19 +13,19 @@ fn mend_image(
     target: &[u8],
     in_place: bool,
     image: &mut [u8],
-) -> u8 {
+) -> Result<u8, Gone> {
     let outcome = findings::mend_within(image, MAX_IMAGE_BYTES);
     if exit_status::is_written(outcome, in_place) {
-        if !files::save(rt, target, image) {
-            return FAILED;
+        if !files::save(rt, target, image)? {
+            return Ok(FAILED);
         }
     }
     let mut lines = [0u8; 128];
     let k = text::mend_report(outcome, &mut lines);
-    crate::said::say(rt, &lines[..k]);
+    crate::said::say(rt, &lines[..k])?;
     let verdict = exit_status::mending_verdict(outcome);
-    crate::said::complain(rt, name, verdict);
-    exit_status::status(verdict)
+    crate::said::complain(rt, name, verdict)?;
+    Ok(exit_status::status(verdict))
 }
 
 fn mend_read(
@@ -33,34 +34,34 @@ fn mend_read(
     target: &[u8],
     in_place: bool,
     image: &mut [u8],
-) -> u8 {
-    let input = files::read(rt, name, image);
+) -> Result<u8, Gone> {
+    let input = files::read(rt, name, image)?;
     if input.failure.is_some() {
-        return FAILED;
+        return Ok(FAILED);
     }
     let n = input.length;
     mend_image(rt, name, target, in_place, &mut image[..n])
 }
 
-fn mend_file(rt: &HostRuntime, name: &[u8], target: &[u8], in_place: bool) -> u8 {
+fn mend_file(rt: &HostRuntime, name: &[u8], target: &[u8], in_place: bool) -> Result<u8, Gone> {
     match memory::room(rt.alloc()) {
         Ok(mut image) => mend_read(rt, name, target, in_place, image.as_mut_slice()),
         Err(_) => memory::lacking(rt),
     }
 }
 
-fn mend_into(rt: &HostRuntime, name: &[u8], output: usize) -> u8 {
+fn mend_into(rt: &HostRuntime, name: &[u8], output: usize) -> Result<u8, Gone> {
     let mut target = io::buffer();
     match argument(rt, output, &mut target) {
         Ok(n) => mend_file(rt, name, &target[..n], false),
         Err(error) => {
-            files::fail(rt, b"-o", error);
-            FAILED
+            files::fail(rt, b"-o", error)?;
+            Ok(FAILED)
         }
     }
 }
 
-fn mend_named(rt: &HostRuntime, name: &[u8], output: usize) -> u8 {
+fn mend_named(rt: &HostRuntime, name: &[u8], output: usize) -> Result<u8, Gone> {
     if output > 0 {
         return mend_into(rt, name, output);
     }
@@ -68,13 +69,13 @@ fn mend_named(rt: &HostRuntime, name: &[u8], output: usize) -> u8 {
     mend_file(rt, name, name, in_place)
 }
 
-pub(crate) fn mend(rt: &HostRuntime, invocation: Invocation) -> u8 {
+pub(crate) fn mend(rt: &HostRuntime, invocation: Invocation) -> Result<u8, Gone> {
     let mut name = io::buffer();
     match argument(rt, invocation.file, &mut name) {
         Ok(n) => mend_named(rt, &name[..n], invocation.output),
         Err(error) => {
-            files::fail(rt, b"FILE", error);
-            FAILED
+            files::fail(rt, b"FILE", error)?;
+            Ok(FAILED)
         }
     }
 }

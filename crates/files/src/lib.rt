@@ -7,8 +7,10 @@ mod links;
 mod names;
 mod saving;
 
+ghost use Rattle.std.specs.Prelude.{IfOk};
 ghost use Rattle.io.specs.Counts.{IsPrefixLen};
 
+use failure::Gone;
 use names::path;
 pub use saving::save;
 use std::fs::File;
@@ -16,55 +18,65 @@ use std::io::{Error, Read, Write};
 use stdin::Input;
 
 // Says why the system failed at a file.
-pub fn fail(rt: &HostRuntime, name: &[u8], error: Error) {
+pub fn fail(rt: &HostRuntime, name: &[u8], error: Error) -> Result<(), Gone> {
     let mut text = [0u8; 4352];
     let k = paths::subject(name, &mut text);
-    failure::say(&mut rt.stderr(), &text[..k], error);
+    failure::say(&mut rt.stderr(), &text[..k], error)
 }
 
-// Writes to standard output, and says why where it can't.
-pub fn print(rt: &HostRuntime, text: &[u8]) -> bool {
-    match rt.stdout().write_all(text) {
-        Ok(()) => true,
+// Whether that went well, and why not, said.
+pub(crate) fn told(rt: &HostRuntime, name: &[u8], done: Result<(), Error>) -> Result<bool, Gone> {
+    match done {
+        Ok(()) => Ok(true),
         Err(error) => {
-            fail(rt, b"standard output", error);
-            false
+            fail(rt, name, error)?;
+            Ok(false)
         }
     }
 }
 
-fn read_open<R: Read>(rt: &HostRuntime, file: &mut R, name: &[u8], image: &mut [u8]) -> Input
-    ensures { IsPrefixLen result.length image.new }
+// Writes to standard output, and says why where it can't.
+pub fn print(rt: &HostRuntime, text: &[u8]) -> Result<bool, Gone> {
+    told(rt, b"standard output", rt.stdout().write_all(text))
+}
+
+fn read_open<R: Read>(
+    rt: &HostRuntime,
+    file: &mut R,
+    name: &[u8],
+    image: &mut [u8],
+) -> Result<Input, Gone>
+    ensures { IfOk result (λ input. IsPrefixLen input.length image.new) }
 {
     let input = stdin::read_from(file, image);
     if let Some(error) = input.failure {
-        fail(rt, name, error);
+        fail(rt, name, error)?;
     }
-    input
+    Ok(input)
 }
 
 fn open(rt: &HostRuntime, name: &[u8]) -> Result<File, Error> {
     File::open(rt, path(name)?)
 }
 
-fn read_named(rt: &HostRuntime, name: &[u8], image: &mut [u8]) -> Input
-    ensures { IsPrefixLen result.length image.new }
+fn read_named(rt: &HostRuntime, name: &[u8], image: &mut [u8]) -> Result<Input, Gone>
+    ensures { IfOk result (λ input. IsPrefixLen input.length image.new) }
 {
     match open(rt, name) {
         Ok(mut file) => read_open(rt, &mut file, name, image),
         Err(error) => {
-            fail(rt, name, error);
-            Input {
+            fail(rt, name, error)?;
+            Ok(Input {
                 length: 0,
                 failure: Some(error),
-            }
+            })
         }
     }
 }
 
 // Reads a file, or standard input, and says why where it can't.
-pub fn read(rt: &HostRuntime, name: &[u8], image: &mut [u8]) -> Input
-    ensures { IsPrefixLen result.length image.new }
+pub fn read(rt: &HostRuntime, name: &[u8], image: &mut [u8]) -> Result<Input, Gone>
+    ensures { IfOk result (λ input. IsPrefixLen input.length image.new) }
 {
     if arguments::is_standard(name) {
         return read_open(rt, &mut rt.stdin(), name, image);

@@ -1,7 +1,8 @@
 // A file that is written: beside the one that it replaces, synced and renamed over it.
 use crate::links::resolved;
 use crate::names::path;
-use crate::{beside, fail, open, print};
+use crate::{beside, open, print, told};
+use failure::Gone;
 use filestat::FileKind;
 use std::fs;
 use std::fs::{File, OpenOptions, Permissions};
@@ -144,15 +145,9 @@ fn save_named(rt: &HostRuntime, name: &[u8], image: &[u8]) -> Result<(), Error> 
 }
 
 // Writes the image to the file of that name, or to standard output, and says why where it can't.
-pub fn save(rt: &HostRuntime, name: &[u8], image: &[u8]) -> bool {
+pub fn save(rt: &HostRuntime, name: &[u8], image: &[u8]) -> Result<bool, Gone> {
     if arguments::is_standard(name) {
         return print(rt, image);
     }
-    match save_named(rt, name, image) {
-        Ok(()) => true,
-        Err(error) => {
-            fail(rt, name, error);
-            false
-        }
-    }
+    told(rt, name, save_named(rt, name, image))
 }
