@@ -1,4 +1,3 @@
--- `kw::mending_numbers` meets its contract. Assumes nothing.
 use mathlib.Core.Path.{◌≡◌, refl, ap, ◌∙◌}
 use mathlib.Core.List.{List, [], ◌∷◌, ◌++◌}
 use mathlib.Core.Option.{Option, none, some}
@@ -10,9 +9,9 @@ use Rattle.model.specs.Scan.{Report}
 use Rattle.scan.specs.Answers.{as_scan}
 use Rattle.kw.specs.Numbers.{report_numbers}
 use Rattle.kw.proofs.Told.{yes_no}
-use Rattle.kw.proofs.mending_numbers.Statement.{statement}
-use Rattle.kw.proofs.mending_numbers.Tie as tie
+use Rattle.kw.proofs.mending_numbers.Goals as goal
 
+-- `kw::mending_numbers` meets its contract. Assumes nothing.
 -- the numbers of a report, one by one
 abbrev first_four : List ℕ → List ℕ → List ℕ
 first_four n rest = get_or n 0 0 ∷ get_or n 1 0 ∷ get_or n 2 0 ∷ get_or n 3 0 ∷ rest
@@ -21,22 +20,10 @@ all_four : (s : Option Report) (rest : List ℕ) → first_four (report_numbers 
 all_four (some r) rest = refl
 all_four none rest = refl
 
-returns : tie.Need-returns
+pub returns : goal.returns
 returns c =
-    let m = c.before.before.args.m in
-    let n = c.report-numbers.result in
+    let m = c.args.m in
+    let n = c.report_numbers-n.result in
     let rest : List ℕ = m.stored ∷ num m.whole ∷ [] in
     ap (λ (w : ℕ). first_four n (m.stored ∷ w ∷ [])) (yes_no m.whole)
-    ∙ ap (λ (l : List ℕ). first_four l rest) c.report-numbers.ensures ∙ all_four (as_scan m.report) rest
-
-pub mending_numbers_spec : {M : Type 1} → statement M
-mending_numbers_spec =
-    tie.close
-    (tie.spec
-    (λ c. search rules)
-    (λ c κs. search rules)
-    (λ c. search rules)
-    (λ c. search rules)
-    (λ c. search rules)
-    (λ c. search rules)
-    returns)
+    ∙ ap (λ (l : List ℕ). first_four l rest) c.report_numbers-n.ensures ∙ all_four (as_scan m.report) rest
