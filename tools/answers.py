@@ -197,7 +197,12 @@ class Turn:
         text = re.sub(r"\btie\.(" + NAME + ")", lambda m: "goal." + self.places.get(norm(m.group(1)), m.group(1)), text)
 
         def field(m):
-            return "." + self.fields.get(norm(m.group(1)), m.group(1))
+            n = m.group(1)
+            if n == "pre":
+                return ".requires"
+            if norm(n) not in self.fields and "-" in n and not re.match(r"(in|in_default|if|loop|field|the|new)-", n):
+                return "." + n.replace("-", "_")
+            return "." + self.fields.get(norm(n), n)
 
         text = re.sub(r"\.([A-Za-z_][^\s(){}\[\],.;λ`\"|:=]*)", field, text)
         for g, names in self.callees.items():
@@ -310,6 +315,13 @@ class Turn:
                 asked = self.info["asked"].get(g) or self.info["asked"].get(m.group(1))
                 if asked and len(asked) > 1:
                     r = as_record(body, asked)
+                    if not r and len(asked) == 3:  # a pair in a pair
+                        outer = as_record(body, ["a", "b"])
+                        k = outer.rfind("; b = ") if outer else -1
+                        if k > 0:
+                            inner = as_record("= " + outer[k + 6:-2], asked[1:])
+                            if inner:
+                                r = outer[:k].replace("record { a = ", f"record {{ {asked[0]} = ", 1) + "; " + inner[len("= record { "):]
                     if r:
                         body = r
                     else:

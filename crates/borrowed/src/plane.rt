@@ -6,7 +6,7 @@ ghost use Rattle.ecc.specs.Answers.{as_word, as_report};
 use ecc::{EccReport, PlaneWord};
 
 // Byte w of the plane belongs to word w of the data.
-#[derive(Drop)]
+#[derive(Clone, Copy)]
 pub struct EccPlane<'a> {
     pub parity: &'a [u8],
 }

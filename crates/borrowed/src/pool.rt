@@ -6,7 +6,7 @@ ghost use Rattle.tables.specs.Parts.{VeryPartIn};
 
 use tables::Place;
 
-#[derive(Drop)]
+#[derive(Clone, Copy)]
 pub struct Pool<'a> {
     pub bytes: &'a [u8],
 }

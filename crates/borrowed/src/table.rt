@@ -7,7 +7,7 @@ ghost use Rattle.tables.specs.Parts.{PartAt, VeryPartIn};
 use tables::Place;
 
 // Records of stride bytes, one behind the other.
-#[derive(Drop)]
+#[derive(Clone, Copy)]
 pub struct RecordTable<'a> {
     pub bytes: &'a [u8],
     pub stride: usize,

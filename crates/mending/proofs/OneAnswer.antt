@@ -2,7 +2,6 @@
 use mathlib.Core.Path.{◌≡◌, refl, ap}
 use mathlib.Core.List.{List}
 use Prim.Native.Nat.{ℕ}
-use Rattle.model.specs.Mend as model
 use Rattle.model.proofs.OneAnswer.{OneAnswerAnd, agree}
 use Rattle.error.specs.Refused.{as_verdict}
 use Rattle.error.proofs.OneAnswer.{one_refusal}

@@ -1,4 +1,4 @@
--- A run over rows, one row at a time: what a loop over the rows needs, and all that its walk knows of the work. Assumes nothing.
+-- A run over rows, one row at a time: what a loop over the rows needs. Assumes nothing.
 use Rattle.std.proofs.Common.{◌≡◌, ℕ, suc, ◌+◌, ◌<◌, ◌≤◌, List, length, get_or, drop, sym, ap, ◌∙◌, add-one, drop_of_length-le, drop-cons}
 use Rattle.plan.specs.declared.rows.Row.{Row}
 use Rattle.plan.specs.declared.rows.Checked.{Checked}

@@ -35,7 +35,7 @@ pub struct Row {
 }
 
 // What the rows so far say: the number of their regions, or the first refusal.
-#[derive(Drop)]
+#[derive(Clone, Copy)]
 pub enum Checked {
     Fine(usize),
     Refused(Refusal),

@@ -1,7 +1,6 @@
 pub mod AnswerLaw
 pub mod EntriesLaw
 pub mod ImageLaw
-pub mod Laid
 pub mod OneAnswer
 pub mod PlanesLaw
 pub mod PrologueLaw

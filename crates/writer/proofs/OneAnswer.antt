@@ -1,15 +1,15 @@
 -- No two answers fit one promise, nor two outputs that are left. (`as_written` tells every two answers of `write` apart.) Assumes nothing.
-use mathlib.Core.Path.{◌≡◌, refl, ap, ap₂}
+use mathlib.Core.Path.{◌≡◌, ap, ap₂}
 use Prim.Native.Nat.{ℕ}
 use native.Mathlib.Omega.{arith}
 use Rattle.model.specs.Refusals.{refuse}
-use Rattle.model.proofs.OneAnswer.{OneAnswerAnd, Reading, agree}
+use Rattle.model.proofs.OneAnswer.{OneAnswerAnd, agree}
 use Rattle.error.specs.Refused.{number_of, detail_of}
 use Rattle.error.proofs.OneAnswer.{one_refusal}
 use Rattle.writer.specs.declared.image.WriteResult.{WriteResult}
 use Rattle.writer.specs.declared.image.WriteResult.TheVariants.{Written, Refused}
 use Rattle.writer.specs.Answers.{as_written}
-use Rattle.writer.specs.contracts.write as write
+use Rattle.writer.proofs.write.Reads as write
 
 pub one_written : (a b : WriteResult) → as_written a ≡ as_written b → a ≡ b
 one_written (Written m) (Written n) e = ap Written (let z : m ≡ n = cc in z)
@@ -20,11 +20,7 @@ one_written (Refused r) (Refused s) e =
     let d : detail_of r ≡ detail_of s = cc in
     ap Refused (one_refusal r s (ap₂ refuse m d))
 
--- `write` is proved by hand, so that its clauses are read here, by computation, and not in a generated `Reads`.
-abbrev pub write_reads : Reading write.ended (λ M 𝓤. write.clauses 𝓤)
-write_reads = record { Learnt = _; reads = λ M 𝓤 𝓛 mem run κs a g r s. refl }
-
 -- ---- no two answers of a function fit its promise
 
-pub one_answer_write : OneAnswerAnd write_reads.Learnt (λ κs s. s.1.1.0.now)
+pub one_answer_write : OneAnswerAnd write.Learnt (λ κs s. s.1.1.0.now)
 one_answer_write κs a r r' s s' p q = (one_written r r' (agree p.0 q.0), agree p.1 q.1)

@@ -14,7 +14,7 @@ use layout::{MAX_REGIONS, WORD, header_length};
 use plan::{Checked, MARK_WORDS, PLAN_WORDS, check_sizes};
 use put::put_bytes;
 
-#[derive(Drop)]
+#[derive(Clone, Copy)]
 pub enum WriteResult {
     // The image's length in bytes.
     Written(usize),

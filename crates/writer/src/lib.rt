@@ -16,8 +16,7 @@ use image::write_plan;
 use plan::{Checked, Row, check_row, empty_plan};
 
 // The image of the plan goes to the front of `out`, and the answer is its length; a refusal leaves every byte of `out` as it was.
-// This is the one function of this crate that holds a `&[Row]`, since its proof is by hand: each row goes to `check_row` by value, and what is
-// kept of them to `write_plan`.
+// Each row goes to `check_row` by value, and what is kept of them to `write_plan`.
 pub fn write(rows: &[Row], payload: &[u8], out: &mut [u8]) -> WriteResult
     ensures { (as_written result ≡ answer_of (model.write (as_plan rows.now) payload.now (length out.old)))
         × (out.new ≡ bytes_after (model.write (as_plan rows.now) payload.now (length out.old)) out.old) }

@@ -1,6 +1,6 @@
-use Rattle.std.proofs.Common.{ℕ, ◌+◌, ◌%◌, ◌^◌, List, sym, ap, ◌∙◌}
+use Rattle.std.proofs.Common.{rules, ◌≡◌, false, ℕ, ◌+◌, ◌%◌, ◌^◌, List, sym, ap, ◌∙◌}
 use Rattle.plan.specs.declared.rows.Checked.TheVariants.{Fine}
-use Rattle.plan.specs.Checking.{with_row}
+use Rattle.plan.specs.Checking.{bad_row, with_row}
 use Rattle.plan.proofs.CheckingLaw.{check_refused, check_bad, check_again, check_fine}
 use Rattle.plan.proofs.rows.check_row.Goals as goal
 
@@ -12,7 +12,9 @@ pub returns-then-bad : goal.returns-then-bad
 returns-then-bad c = check_bad _ _ _ _ _ c.in-Fine.is (sym c.is_bad-bad.ensures ∙ c.if-bad.true)
 
 pub returns-then-again : goal.returns-then-again
-returns-then-again c = check_again _ _ _ _ _ c.in-Fine.is (sym c.is_bad-bad.ensures ∙ c.if-bad.false) (sym c.is_marked-again.ensures ∙ c.if-again.true)
+returns-then-again c =
+    let good : bad_row c.args.row ≡ false = search rules in
+    check_again _ _ _ _ _ c.in-Fine.is good (sym c.is_marked-again.ensures ∙ c.if-again.true)
 
 pub returns : goal.returns
 returns c =

@@ -1,0 +1,14 @@
+use mathlib.Core.Path.{◌≡◌}
+use mathlib.Core.Bool.{not, ◌||◌}
+use Prim.Native.Nat.{◌-◌, ◌≤◌}
+use lib.Dec.{eqb}
+use Rattle.lemmas.specs.Steps.{is_some}
+use Rattle.overlap.specs.Spans.{overlaps_from}
+use Rattle.overlap.proofs.overlaps_any.Given as goal
+
+-- `overlap::overlaps_any` meets its contract. The invariant: there are hits, or what is left has one, if there is one at all. Assumes nothing.
+abbrev pub invariant-loop-j : goal.invariant-loop-j
+invariant-loop-j l = (l.hits ≤ l.j) × (not (eqb l.hits 0) || is_some (overlaps_from l.first l.last l.spans l.j (l.n - l.j)) ≡ is_some (overlaps_from l.first l.last l.spans 0 l.n))
+
+abbrev pub decreases-loop-j : goal.decreases-loop-j
+decreases-loop-j l = l.n - l.j

@@ -1,0 +1,34 @@
+use native.Mathlib.Omega.{arith}
+use Rattle.put.proofs.PutLaw.{kept_length}
+use Rattle.writer.proofs.EntriesLaw.{rows_start, row_room, row_word, row_put, rows_done}
+use Rattle.writer.proofs.directory.put_row_entries.Goals as goal
+
+pub loop-i-init : goal.loop-i-init
+loop-i-init c = rows_start _ _ _ _ c.requires.0
+
+pub put_entry-next-requires : goal.put_entry-next-requires
+put_entry-next-requires c = row_room _ _ _ _ c.loop-i.invariant c.loop-i-test.true
+
+pub overflow_add-offset : goal.overflow_add-offset
+overflow_add-offset c = omega (arith, row_word _ _ _ _ c.loop-i.invariant c.loop-i-test.true, c.words_of-offset.ensures, c.requires)
+
+pub loop-i-preserved : goal.loop-i-preserved
+loop-i-preserved c = row_put _ _ _ _ c.loop-i.invariant c.loop-i-test.true c.row_entry.ensures c.words_of-offset.ensures c.put_entry-next.ensures
+
+pub shape_of-out : goal.shape_of-out
+shape_of-out c = kept_length _ _ _ c.loop-i.invariant.going
+
+pub returns : goal.returns
+returns c = rows_done _ _ _ _ c.loop-i.invariant (omega arith)
+
+pub offset_bounds-rows-i : goal.offset_bounds-rows-i
+offset_bounds-rows-i c = omega arith
+
+pub bounds-rows-i : goal.bounds-rows-i
+bounds-rows-i c = omega arith
+
+pub overflow_add-i : goal.overflow_add-i
+overflow_add-i c = omega arith
+
+pub loop-i-smaller : goal.loop-i-smaller
+loop-i-smaller c = omega arith

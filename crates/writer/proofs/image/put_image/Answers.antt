@@ -1,0 +1,103 @@
+use mathlib.Core.Path.{◌≡◌, ap, ap₂, ◌∙◌, subst}
+use Prim.Native.Nat.{ℕ, ◌*◌, ◌/◌}
+use native.Mathlib.Omega.{arith}
+use lib.ListN.{length}
+use mathlib.Core.List.{List, ◌++◌}
+use Rattle.model.specs.Bytes.{thrice}
+use Rattle.model.specs.Writer.{Row, regions, first_word, plan_directory, entries_bytes, prologue_bytes, planes_bytes, plan_image, image_length, row_words_lem}
+use Rattle.model.specs.Layout.{header_length}
+use Rattle.model.proofs.BytesLaw.{length_thrice}
+use Rattle.lemmas.proofs.PlanCodewords.{length_planes}
+use Rattle.plan.specs.Kept.{rows_of}
+use Rattle.writer.specs.Answers.{Sized}
+use Rattle.put.specs.Put.{Put}
+use Rattle.writer.proofs.ImageLaw.{copy_of, copy_is, copy_length, image_length_lem}
+use Rattle.writer.proofs.PrologueLaw.{prologues_length}
+use Rattle.put.proofs.PutLaw.{begin, go_on, last}
+use Rattle.writer.proofs.image.put_image.Goals as goal
+
+-- `writer::image::put_image` meets its contract. Assumes nothing.
+pub put_prologues-directory-requires : goal.put_prologues-directory-requires
+unfolding image_length
+put_prologues-directory-requires c = omega (arith, c.requires.room)
+
+pub overflow_cast-first_word : goal.overflow_cast-first_word
+overflow_cast-first_word c = omega (arith, c.header_length.ensures, c.requires.small)
+
+-- ---- once the header's length h is known
+module _ {xs payload out : List ℕ} {n h : ℕ} (s : Sized xs n payload out) (e : h ≡ header_length n) where
+  -- one copy of the directory
+  abbrev copy : List ℕ
+  copy = copy_of (h / 8) (length payload / 8) (rows_of xs)
+
+  first_word_lem : h / 8 ≡ first_word (rows_of xs)
+  first_word_lem = omega (arith, e, s.counted)
+
+  row_words : length payload / 8 ≡ row_words_lem (rows_of xs)
+  row_words = omega (arith, s.full)
+
+  copied : copy ≡ entries_bytes (plan_directory (rows_of xs))
+  copied = copy_is _ _ (rows_of xs) first_word_lem row_words
+
+  long : length copy ≡ 16 * regions (rows_of xs)
+  long = ap length copied ∙ copy_length (rows_of xs)
+
+  long_thrice : length (thrice copy) ≡ 3 * (16 * regions (rows_of xs))
+  long_thrice = length_thrice copy (16 * regions (rows_of xs)) long
+
+pub overflow_cast-plane_word : goal.overflow_cast-plane_word
+unfolding image_length
+overflow_cast-plane_word c = omega (arith, c.requires.fits, row_words c.requires c.header_length.ensures)
+
+pub overflow_add-plane_word : goal.overflow_add-plane_word
+unfolding image_length
+overflow_add-plane_word c = omega (arith, c.requires.fits, first_word_lem c.requires c.header_length.ensures, row_words c.requires c.header_length.ensures)
+
+pub put_directories-packed-requires : goal.put_directories-packed-requires
+unfolding image_length
+put_directories-packed-requires c =
+    let s = c.requires in
+    let h = c.header_length.ensures in
+    let p = c.put_prologues-directory.ensures in (
+      omega (arith, long s h, s.room, p.behind, p.long, prologues_length c.args.regions 0),
+      omega (arith, s.fits, first_word_lem s h),
+      omega (arith, s.fits, first_word_lem s h, row_words s h),
+      s.low_kinds,
+    )
+
+pub put_bytes-planes-requires : goal.put_bytes-planes-requires
+unfolding image_length
+put_bytes-planes-requires c =
+    let s = c.requires in
+    let p = c.put_prologues-directory.ensures in
+    let q = c.put_directories-packed.ensures in
+    omega (arith, long_thrice s c.header_length.ensures, s.room, s.full, q.behind, q.long, p.behind, p.long, prologues_length c.args.regions 0)
+
+pub put_planes-requires : goal.put_planes-requires
+unfolding image_length
+put_planes-requires c =
+    let s = c.requires in
+    let p = c.put_prologues-directory.ensures in
+    let q = c.put_directories-packed.ensures in
+    let b = c.put_bytes-planes.ensures in
+    (omega (arith, long_thrice s c.header_length.ensures, s.room, s.full, b.behind, b.long, q.behind, q.long, p.behind, p.long, prologues_length c.args.regions 0, length_planes (rows_of c.args.rows.now) c.args.payload.now), s.full)
+
+pub returns : goal.returns
+unfolding plan_image
+returns c =
+    let s = c.requires in
+    let h = c.header_length.ensures in
+    let rs : List Row = rows_of c.args.rows.now in
+    let payload : List ℕ = c.args.payload.now in
+    let n : ℕ = c.args.regions in
+    let o : List ℕ = c.args.out.now in
+    let a : List ℕ = thrice (prologue_bytes n 0) in
+    let d : List ℕ = thrice (copy s h) in
+    let q : List ℕ = planes_bytes rs payload in
+    let e : a ++ (d ++ (payload ++ q)) ≡ plan_image rs payload =
+    ap₂ (λ (m : ℕ) (x : List ℕ). thrice (prologue_bytes m 0) ++ (thrice x ++ (payload ++ q))) s.counted (copied s h) in
+    let g0 = begin o 0 (a ++ (d ++ (payload ++ q))) (omega (arith, s.room, ap length e, image_length_lem rs payload s.full)) in
+    let g1 = go_on _ _ a (d ++ (payload ++ q)) g0 c.put_prologues-directory.ensures in
+    let g2 = go_on _ _ d (payload ++ q) g1 c.put_directories-packed.ensures in
+    let g3 = go_on _ _ payload q g2 c.put_bytes-planes.ensures in
+    subst (λ (x : List ℕ). Put o 0 x c.put_planes.result c.put_planes.new.out) e (last _ _ q g3 c.put_planes.ensures)
