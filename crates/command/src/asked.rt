@@ -1,31 +1,67 @@
 // The arguments, one by one.
+ghost use Rattle.std.specs.Prelude.{IfOk};
 ghost use Rattle.io.specs.Counts.{IsPrefixLen};
 
 use arguments::Invocation;
+use std::env::FillError;
+use std::io::Error;
+use std::rt::Env;
 
-// What argument i is. One that is longer than any name is taken for a name, which can't be opened.
-pub(crate) fn word_at(i: usize) -> u8 {
-    let mut argument = io::buffer();
-    let n = os::arg(i, &mut argument);
-    arguments::word(&argument[..n])
+// The system's number for a name that is too long, ENAMETOOLONG.
+const TOO_LONG: i32 = 36;
+
+fn is_given(rt: &impl Env, i: usize) -> bool {
+    !matches!(rt.arg(i, &mut []), Err(FillError::NotPresent))
 }
 
-pub(crate) fn invocation(count: usize) -> Invocation {
+// How many arguments there are, the command's own name among them.
+pub(crate) fn count(rt: &impl Env) -> usize {
+    let mut count: usize = 0;
+    for i in 0..usize::MAX {
+        if !is_given(rt, i) {
+            break;
+        }
+        count = i + 1;
+    }
+    count
+}
+
+// Argument i, which is too long for any name where it does not fit.
+pub(crate) fn argument(rt: &impl Env, i: usize, word: &mut [u8]) -> Result<usize, Error>
+    ensures { IfOk result (λ n. IsPrefixLen n word.new) }
+{
+    match rt.arg(i, word) {
+        Ok(n) => Ok(n),
+        Err(_) => Err(Error::from_raw_os_error(TOO_LONG)),
+    }
+}
+
+// What argument i is. One that is longer than any name is taken for a name, which can't be opened.
+pub(crate) fn word_at(rt: &impl Env, i: usize) -> u8 {
+    let mut word = io::buffer();
+    match argument(rt, i, &mut word) {
+        Ok(n) => arguments::word(&word[..n]),
+        Err(_) => arguments::word(b""),
+    }
+}
+
+pub(crate) fn invocation(rt: &impl Env, count: usize) -> Invocation {
     let mut invocation = arguments::start();
-    let mut i: usize = 1;
-    while i < count {
-        invocation = arguments::step(invocation, i, word_at(i));
-        i += 1;
+    for i in 1..count {
+        invocation = arguments::step(invocation, i, word_at(rt, i));
     }
     arguments::finish(invocation)
 }
 
 // The argument that is at fault, or none where one is missing.
-pub(crate) fn argument_at_fault(place: usize, word: &mut [u8]) -> usize
+pub(crate) fn argument_at_fault(rt: &impl Env, place: usize, word: &mut [u8]) -> usize
     ensures { IsPrefixLen result word.new }
 {
     if place == 0 {
         return 0;
     }
-    os::arg(place, word)
+    match argument(rt, place, word) {
+        Ok(n) => n,
+        Err(_) => 0,
+    }
 }

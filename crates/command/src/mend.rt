@@ -1,57 +1,81 @@
 // kw mend.
+use crate::asked::argument;
+use crate::memory;
 use arguments::Invocation;
 use exit_status::FAILED;
+use failure::Gone;
 use layout::MAX_IMAGE_BYTES;
 
 // What is said of the image comes last: not before all of it is written.
-fn mend_image(name: &[u8], target: &[u8], in_place: bool, image: &mut [u8]) -> u8 {
+fn mend_image(
+    rt: &HostRuntime,
+    name: &[u8],
+    target: &[u8],
+    in_place: bool,
+    image: &mut [u8],
+) -> Result<u8, Gone> {
     let outcome = findings::mend_within(image, MAX_IMAGE_BYTES);
     if exit_status::is_written(outcome, in_place) {
-        if !files::save(target, image) {
-            return FAILED;
+        if !files::save(rt, target, image)? {
+            return Ok(FAILED);
         }
     }
     let mut lines = [0u8; 128];
     let k = text::mend_report(outcome, &mut lines);
-    crate::said::say(&lines[..k]);
+    crate::said::say(rt, &lines[..k])?;
     let verdict = exit_status::mending_verdict(outcome);
-    crate::said::complain(name, verdict);
-    exit_status::status(verdict)
+    crate::said::complain(rt, name, verdict)?;
+    Ok(exit_status::status(verdict))
 }
 
-fn mend_file(name: &[u8], target: &[u8], in_place: bool, image: &mut [u8]) -> u8 {
-    let input = files::read(name, image);
-    if input.failed {
-        return FAILED;
+fn mend_read(
+    rt: &HostRuntime,
+    name: &[u8],
+    target: &[u8],
+    in_place: bool,
+    image: &mut [u8],
+) -> Result<u8, Gone> {
+    let input = files::read(rt, name, image)?;
+    if input.failure.is_some() {
+        return Ok(FAILED);
     }
     let n = input.length;
-    mend_image(name, target, in_place, &mut image[..n])
+    mend_image(rt, name, target, in_place, &mut image[..n])
 }
 
-fn mend_into(name: &[u8], output: usize, image: &mut [u8]) -> u8 {
-    let mut target = io::buffer();
-    let n = os::arg(output, &mut target);
-    if os::errno() != 0 {
-        files::fail(b"-o");
-        return FAILED;
+fn mend_file(rt: &HostRuntime, name: &[u8], target: &[u8], in_place: bool) -> Result<u8, Gone> {
+    match memory::room(rt.alloc()) {
+        Ok(mut image) => mend_read(rt, name, target, in_place, image.as_mut_slice()),
+        Err(_) => memory::lacking(rt),
     }
-    mend_file(name, &target[..n], false, image)
 }
 
-fn mend_named(name: &[u8], output: usize, image: &mut [u8]) -> u8 {
+fn mend_into(rt: &HostRuntime, name: &[u8], output: usize) -> Result<u8, Gone> {
+    let mut target = io::buffer();
+    match argument(rt, output, &mut target) {
+        Ok(n) => mend_file(rt, name, &target[..n], false),
+        Err(error) => {
+            files::fail(rt, b"-o", error)?;
+            Ok(FAILED)
+        }
+    }
+}
+
+fn mend_named(rt: &HostRuntime, name: &[u8], output: usize) -> Result<u8, Gone> {
     if output > 0 {
-        return mend_into(name, output, image);
+        return mend_into(rt, name, output);
     }
     let in_place = !arguments::is_standard(name);
-    mend_file(name, name, in_place, image)
+    mend_file(rt, name, name, in_place)
 }
 
-pub(crate) fn mend(image: &mut [u8], invocation: Invocation) -> u8 {
+pub(crate) fn mend(rt: &HostRuntime, invocation: Invocation) -> Result<u8, Gone> {
     let mut name = io::buffer();
-    let n = os::arg(invocation.file, &mut name);
-    if os::errno() != 0 {
-        files::fail(b"FILE");
-        return FAILED;
+    match argument(rt, invocation.file, &mut name) {
+        Ok(n) => mend_named(rt, &name[..n], invocation.output),
+        Err(error) => {
+            files::fail(rt, b"FILE", error)?;
+            Ok(FAILED)
+        }
     }
-    mend_named(&name[..n], invocation.output, image)
 }

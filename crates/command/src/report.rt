@@ -1,59 +1,76 @@
 // kw report.
+use crate::asked::argument;
+use crate::memory;
 use exit_status::FAILED;
+use failure::Gone;
 use layout::MAX_IMAGE_BYTES;
 
-fn report_image(name: &[u8], image: &[u8], several: bool) -> u8 {
+fn report_image(rt: &HostRuntime, name: &[u8], image: &[u8], several: bool) -> Result<u8, Gone> {
     let found = findings::look(image, MAX_IMAGE_BYTES);
     let mut lines = [0u8; 8448];
     let k = text::file_report(name, several, found, &mut lines);
-    let printed = crate::said::print(&lines[..k]);
+    let printed = crate::said::print(rt, &lines[..k])?;
     let verdict = exit_status::report_verdict(found);
-    crate::said::complain(name, verdict);
-    exit_status::higher(printed, exit_status::status(verdict))
+    crate::said::complain(rt, name, verdict)?;
+    Ok(exit_status::higher(printed, exit_status::status(verdict)))
 }
 
-fn report_file(name: &[u8], image: &mut [u8], several: bool) -> u8 {
-    let input = files::read(name, image);
-    if input.failed {
-        return FAILED;
+fn report_file(rt: &HostRuntime, name: &[u8], image: &mut [u8], several: bool) -> Result<u8, Gone> {
+    let input = files::read(rt, name, image)?;
+    if input.failure.is_some() {
+        return Ok(FAILED);
     }
     let n = input.length;
-    report_image(name, &image[..n], several)
+    report_image(rt, name, &image[..n], several)
 }
 
-fn report_argument(i: usize, image: &mut [u8], several: bool) -> u8 {
+fn report_argument(
+    rt: &HostRuntime,
+    i: usize,
+    image: &mut [u8],
+    several: bool,
+) -> Result<u8, Gone> {
     let mut name = io::buffer();
-    let n = os::arg(i, &mut name);
-    if os::errno() != 0 {
-        files::fail(b"FILE");
-        return FAILED;
+    match argument(rt, i, &mut name) {
+        Ok(n) => report_file(rt, &name[..n], image, several),
+        Err(error) => {
+            files::fail(rt, b"FILE", error)?;
+            Ok(FAILED)
+        }
     }
-    report_file(&name[..n], image, several)
 }
 
 // The status so far, with that of argument i if it is a file.
-fn report_if(is_file: bool, i: usize, image: &mut [u8], several: bool, status: u8) -> u8 {
+fn report_if(
+    rt: &HostRuntime,
+    is_file: bool,
+    i: usize,
+    image: &mut [u8],
+    several: bool,
+    status: u8,
+) -> Result<u8, Gone> {
     if is_file {
-        return exit_status::higher(status, report_argument(i, image, several));
+        let next = report_argument(rt, i, image, several)?;
+        return Ok(exit_status::higher(status, next));
     }
-    status
+    Ok(status)
 }
 
-pub(crate) fn report(image: &mut [u8], count: usize, several: bool) -> u8 {
+fn report_all(rt: &HostRuntime, image: &mut [u8], count: usize, several: bool) -> Result<u8, Gone> {
     let mut invocation = arguments::start();
     let mut status: u8 = 0;
-    let mut i: usize = 1;
-    while i < count {
-        let word = crate::asked::word_at(i);
-        status = report_if(
-            arguments::reports_on(invocation, word),
-            i,
-            image,
-            several,
-            status,
-        );
+    for i in 1..count {
+        let word = crate::asked::word_at(rt, i);
+        let is_file = arguments::reports_on(invocation, word);
+        status = report_if(rt, is_file, i, image, several, status)?;
         invocation = arguments::step(invocation, i, word);
-        i += 1;
     }
-    status
+    Ok(status)
+}
+
+pub(crate) fn report(rt: &HostRuntime, count: usize, several: bool) -> Result<u8, Gone> {
+    match memory::room(rt.alloc()) {
+        Ok(mut image) => report_all(rt, image.as_mut_slice(), count, several),
+        Err(_) => memory::lacking(rt),
+    }
 }

@@ -2,67 +2,84 @@
 // a count lies within its buffer. (FORMAT 14)
 #![tactic(auto)]
 
+mod beside;
 mod links;
+mod names;
 mod saving;
 
+ghost use Rattle.std.specs.Prelude.{IfOk};
 ghost use Rattle.io.specs.Counts.{IsPrefixLen};
 
+use failure::Gone;
+use names::path;
 pub use saving::save;
+use std::fs::File;
+use std::io::{Error, Read, Write};
 use stdin::Input;
 
-// Says why the system failed at a file. It is called right after the call that failed.
-pub fn fail(name: &[u8]) {
+// Says why the system failed at a file.
+pub fn fail(rt: &HostRuntime, name: &[u8], error: Error) -> Result<(), Gone> {
     let mut text = [0u8; 4352];
     let k = paths::subject(name, &mut text);
-    os::fail(&text[..k]);
+    failure::say(&mut rt.stderr(), &text[..k], error)
 }
 
-// Writes to an open file, and says why where it can't.
-pub(crate) fn write(file: i32, name: &[u8], bytes: &[u8]) -> bool {
-    let written = io::write_all(file, bytes);
-    if !written {
-        fail(name);
+// Whether that went well, and why not, said.
+pub(crate) fn told(rt: &HostRuntime, name: &[u8], done: Result<(), Error>) -> Result<bool, Gone> {
+    match done {
+        Ok(()) => Ok(true),
+        Err(error) => {
+            fail(rt, name, error)?;
+            Ok(false)
+        }
     }
-    written
 }
 
 // Writes to standard output, and says why where it can't.
-pub fn print(text: &[u8]) -> bool {
-    write(libc::STDOUT_FILENO, b"standard output", text)
+pub fn print(rt: &HostRuntime, text: &[u8]) -> Result<bool, Gone> {
+    told(rt, b"standard output", rt.stdout().write_all(text))
 }
 
-fn read_open(file: i32, name: &[u8], image: &mut [u8]) -> Input
-    ensures { IsPrefixLen result.length image.new }
+fn read_open<R: Read>(
+    rt: &HostRuntime,
+    file: &mut R,
+    name: &[u8],
+    image: &mut [u8],
+) -> Result<Input, Gone>
+    ensures { IfOk result (λ input. IsPrefixLen input.length image.new) }
 {
     let input = stdin::read_from(file, image);
-    if input.failed {
-        fail(name);
+    if let Some(error) = input.failure {
+        fail(rt, name, error)?;
     }
-    input
+    Ok(input)
 }
 
-fn read_named(name: &[u8], image: &mut [u8]) -> Input
-    ensures { IsPrefixLen result.length image.new }
+fn open(rt: &HostRuntime, name: &[u8]) -> Result<File, Error> {
+    File::open(rt, path(name)?)
+}
+
+fn read_named(rt: &HostRuntime, name: &[u8], image: &mut [u8]) -> Result<Input, Gone>
+    ensures { IfOk result (λ input. IsPrefixLen input.length image.new) }
 {
-    let file = os::open_read(name);
-    if file < 0 {
-        fail(name);
-        return Input {
-            length: 0,
-            failed: true,
-        };
+    match open(rt, name) {
+        Ok(mut file) => read_open(rt, &mut file, name, image),
+        Err(error) => {
+            fail(rt, name, error)?;
+            Ok(Input {
+                length: 0,
+                failure: Some(error),
+            })
+        }
     }
-    let input = read_open(file, name, image);
-    libc::close(file);
-    input
 }
 
 // Reads a file, or standard input, and says why where it can't.
-pub fn read(name: &[u8], image: &mut [u8]) -> Input
-    ensures { IsPrefixLen result.length image.new }
+pub fn read(rt: &HostRuntime, name: &[u8], image: &mut [u8]) -> Result<Input, Gone>
+    ensures { IfOk result (λ input. IsPrefixLen input.length image.new) }
 {
     if arguments::is_standard(name) {
-        return read_open(libc::STDIN_FILENO, name, image);
+        return read_open(rt, &mut rt.stdin(), name, image);
     }
-    read_named(name, image)
+    read_named(rt, name, image)
 }

@@ -1,38 +1,12 @@
 // Links, and the file that a name leads to through them.
-ghost use Rattle.std.specs.Prelude.{◌≡◌, length};
+ghost use Rattle.std.specs.Prelude.{IfOk};
 ghost use Rattle.io.specs.Counts.{IsPrefixLen};
-ghost use Rattle.libc.specs.Io.{Ended};
+
+use crate::names::{not_text, path};
+use std::fs;
+use std::io::{Error, ErrorKind};
 
 const MOST_LINKS: usize = 40;
-
-const LAST: usize = 4095;
-
-fn put_path(name: &[u8], path: &mut [u8])
-    ensures { length path.new ≡ length path.old }
-{
-    if name.len() < path.len() {
-        put::put_bytes(path, 0, name);
-    }
-}
-
-// A name as the system takes it, with a 0 behind it. One that is too long is left out, and names no link.
-fn ended(name: &[u8]) -> [u8; 4096]
-    ensures { Ended result }
-{
-    let mut path = io::buffer();
-    put_path(name, &mut path);
-    path[LAST] = 0;
-    path
-}
-
-// The text of the link at path, or nothing where there is no link.
-fn link_text(path: &[u8], link: &mut [u8]) -> usize
-    ensures { IsPrefixLen result link.new }
-{
-    let path = ended(path);
-    let got = libc::readlink(&path, link);
-    io::count(got, link)
-}
 
 fn copied(name: &[u8], target: &mut [u8]) -> usize
     ensures { IsPrefixLen result target.new }
@@ -41,6 +15,18 @@ fn copied(name: &[u8], target: &mut [u8]) -> usize
         return 0;
     }
     put::put_bytes(target, 0, name)
+}
+
+// The text of the link at path, or nothing where there is no link.
+fn link_text(rt: &HostRuntime, name: &[u8], link: &mut [u8]) -> Result<usize, Error>
+    ensures { IfOk result (λ n. IsPrefixLen n link.new) }
+{
+    match fs::read_link(rt, path(name)?) {
+        Ok(text) => Ok(copied(text.as_path().as_str().as_bytes(), link)),
+        Err(error) if error.raw_os_error().is_some() => Ok(0),
+        Err(error) if error.kind() == ErrorKind::InvalidFilename => Err(not_text()),
+        Err(error) => Err(error),
+    }
 }
 
 // Where a link leads whose name is at the start of target.
@@ -54,19 +40,17 @@ fn follow(n: usize, link: &[u8], target: &mut [u8]) -> usize
 }
 
 // The file that a name leads to through links, put into target.
-pub(crate) fn resolved(name: &[u8], target: &mut [u8]) -> usize
-    ensures { IsPrefixLen result target.new }
+pub(crate) fn resolved(rt: &HostRuntime, name: &[u8], target: &mut [u8]) -> Result<usize, Error>
+    ensures { IfOk result (λ n. IsPrefixLen n target.new) }
 {
     let mut n = copied(name, target);
-    let mut turns = MOST_LINKS;
-    while turns > 0 {
+    for _ in 0..MOST_LINKS {
         let mut link = io::buffer();
-        let k = link_text(&target[..n], &mut link);
+        let k = link_text(rt, &target[..n], &mut link)?;
         if k == 0 {
-            return n;
+            return Ok(n);
         }
         n = follow(n, &link[..k], target);
-        turns -= 1;
     }
-    n
+    Ok(n)
 }

@@ -1,138 +1,153 @@
 // A file that is written: beside the one that it replaces, synced and renamed over it.
 use crate::links::resolved;
-use crate::{fail, print};
+use crate::names::path;
+use crate::{beside, open, print, told};
+use failure::Gone;
 use filestat::FileKind;
+use std::fs;
+use std::fs::{File, OpenOptions, Permissions};
+use std::io::{Error, ErrorKind, Write};
+use std::os::unix::fs::{PermissionsExt, fchown};
+
+// What a mode says of a file's kind, and a regular file's answer.
+const KIND: u32 = 0o170_000;
+
+const REGULAR: u32 = 0o100_000;
+
+const PERMISSIONS: u32 = 0o7777;
 
 fn is_regular(about: FileKind) -> bool {
-    about.mode & libc::S_IFMT == libc::S_IFREG
+    about.mode & KIND == REGULAR
 }
 
-// All that makes the new file what the old one was, with the image in it and on its disk.
-fn fill(file: i32, about: FileKind, image: &[u8]) -> bool {
-    if !io::write_all(file, image) {
-        return false;
-    }
-    libc::fchown(file, about.owner, about.group);
-    if libc::fchmod(file, about.mode & 0o7777) < 0 {
-        return false;
-    }
-    libc::fsync(file) == 0
+// All that makes the new file what the old one was, with the image in it and on its disk. Only the system's administrator may give a file away.
+fn fill(mut file: File, about: FileKind, image: &[u8]) -> Result<(), Error> {
+    file.write_all(image)?;
+    let _ = fchown(&file, Some(about.owner), Some(about.group));
+    file.set_permissions(Permissions::from_mode(about.mode & PERMISSIONS))?;
+    file.sync_all()
 }
 
-fn sync_folder(target: &[u8]) {
+fn sync(rt: &HostRuntime, folder: &[u8]) {
+    if let Ok(file) = open(rt, folder) {
+        let _ = file.sync_all();
+    }
+}
+
+fn sync_folder(rt: &HostRuntime, target: &[u8]) {
     let n = paths::folder_length(target);
     if n == 0 {
-        sync(b".");
+        sync(rt, b".");
     } else {
-        sync(&target[..n]);
+        sync(rt, &target[..n]);
     }
 }
 
-fn sync(folder: &[u8]) {
-    let file = os::open_read(folder);
-    if file >= 0 {
-        libc::fsync(file);
-        libc::close(file);
-    }
+fn rename(rt: &HostRuntime, from: &[u8], to: &[u8]) -> Result<(), Error> {
+    fs::rename(rt, path(from)?, path(to)?)
 }
 
-// Writes the image beside target and renames it over it. Where that fails, it says why, and leaves no file of its own.
-fn replace(name: &[u8], target: &[u8], about: FileKind, image: &[u8]) -> bool {
-    let mut beside = [0u8; 8192];
-    let n = paths::temporary(target, &mut beside);
-    replace_by(name, &mut beside[..n], target, about, image)
+fn remove(rt: &HostRuntime, name: &[u8]) -> Result<(), Error> {
+    fs::remove_file(rt, path(name)?)
 }
 
-fn replace_resolved(name: &[u8], about: FileKind, image: &[u8]) -> bool {
-    let mut target = [0u8; 8192];
-    let n = resolved(name, &mut target);
-    replace(name, &target[..n], about, image)
+fn fill_and_rename(
+    rt: &HostRuntime,
+    file: File,
+    beside: &[u8],
+    target: &[u8],
+    about: FileKind,
+    image: &[u8],
+) -> Result<(), Error> {
+    fill(file, about, image)?;
+    rename(rt, beside, target)?;
+    sync_folder(rt, target);
+    Ok(())
 }
 
+// Leaves no file of its own where it fails.
 fn replace_by(
-    name: &[u8],
+    rt: &HostRuntime,
     beside: &mut [u8],
     target: &[u8],
     about: FileKind,
     image: &[u8],
-) -> bool {
-    let file = os::create_temp(beside);
-    if file < 0 {
-        fail(name);
-        return false;
+) -> Result<(), Error> {
+    let file = beside::create(rt, beside)?;
+    let replaced = fill_and_rename(rt, file, beside, target, about, image);
+    if replaced.is_err() {
+        let _ = remove(rt, beside);
     }
-    let filled = fill(file, about, image);
-    if !filled {
-        fail(name);
-    }
-    libc::close(file);
-    finish(name, beside, target, filled)
+    replaced
 }
 
-fn finish(name: &[u8], beside: &[u8], target: &[u8], filled: bool) -> bool {
-    if filled {
-        if os::rename(beside, target) == 0 {
-            sync_folder(target);
-            return true;
-        }
-        fail(name);
-    }
-    os::unlink(beside);
-    false
+// Writes the image beside target and renames it over it.
+fn replace(rt: &HostRuntime, target: &[u8], about: FileKind, image: &[u8]) -> Result<(), Error> {
+    let mut beside = [0u8; 8192];
+    let n = paths::temporary(target, &mut beside);
+    replace_by(rt, &mut beside[..n], target, about, image)
+}
+
+fn replace_resolved(
+    rt: &HostRuntime,
+    name: &[u8],
+    about: FileKind,
+    image: &[u8],
+) -> Result<(), Error> {
+    let mut target = [0u8; 8192];
+    let n = resolved(rt, name, &mut target)?;
+    replace(rt, &target[..n], about, image)
 }
 
 // A device or a pipe is written to, and not replaced.
-fn pass_on(name: &[u8], file: i32, image: &[u8]) -> bool {
-    let written = crate::write(file, name, image);
-    libc::close(file);
-    written
+fn save_open(rt: &HostRuntime, name: &[u8], mut file: File, image: &[u8]) -> Result<(), Error> {
+    let about = filestat::about(&file);
+    if !is_regular(about) {
+        return file.write_all(image);
+    }
+    drop(file);
+    replace_resolved(rt, name, about, image)
 }
 
-fn save_open(name: &[u8], file: i32, image: &[u8]) -> bool {
-    let about = filestat::about(file);
-    if !is_regular(about) {
-        return pass_on(name, file, image);
-    }
-    libc::close(file);
-    replace_resolved(name, about, image)
+fn make(rt: &HostRuntime, target: &[u8]) -> Result<File, Error> {
+    OpenOptions::new()
+        .write(true)
+        .create_new(true)
+        .open(rt, path(target)?)
 }
 
 // A new file is made first, empty, as the system makes files for this user; where the image can't be written it goes again.
-fn save_made(name: &[u8], target: &[u8], image: &[u8]) -> bool {
-    let file = os::create(target);
-    if file < 0 {
-        fail(name);
-        return false;
-    }
-    let saved = save_open(name, file, image);
-    if !saved {
-        os::unlink(target);
+fn save_made(rt: &HostRuntime, name: &[u8], target: &[u8], image: &[u8]) -> Result<(), Error> {
+    let file = make(rt, target)?;
+    let saved = save_open(rt, name, file, image);
+    if saved.is_err() {
+        let _ = remove(rt, target);
     }
     saved
 }
 
-fn save_new(name: &[u8], image: &[u8]) -> bool {
+fn save_new(rt: &HostRuntime, name: &[u8], image: &[u8]) -> Result<(), Error> {
     let mut target = [0u8; 8192];
-    let n = resolved(name, &mut target);
-    save_made(name, &target[..n], image)
+    let n = resolved(rt, name, &mut target)?;
+    save_made(rt, name, &target[..n], image)
 }
 
-fn save_named(name: &[u8], image: &[u8]) -> bool {
-    let file = os::open_append(name);
-    if file >= 0 {
-        return save_open(name, file, image);
+fn open_append(rt: &HostRuntime, name: &[u8]) -> Result<File, Error> {
+    OpenOptions::new().append(true).open(rt, path(name)?)
+}
+
+fn save_named(rt: &HostRuntime, name: &[u8], image: &[u8]) -> Result<(), Error> {
+    match open_append(rt, name) {
+        Ok(file) => save_open(rt, name, file, image),
+        Err(error) if error.kind() == ErrorKind::NotFound => save_new(rt, name, image),
+        Err(error) => Err(error),
     }
-    if os::errno() == libc::ENOENT {
-        return save_new(name, image);
-    }
-    fail(name);
-    false
 }
 
 // Writes the image to the file of that name, or to standard output, and says why where it can't.
-pub fn save(name: &[u8], image: &[u8]) -> bool {
+pub fn save(rt: &HostRuntime, name: &[u8], image: &[u8]) -> Result<bool, Gone> {
     if arguments::is_standard(name) {
-        return print(image);
+        return print(rt, image);
     }
-    save_named(name, image)
+    told(rt, name, save_named(rt, name, image))
 }

@@ -1,46 +1,52 @@
-// Standard input, for the programs, and any other open file, for the command. No contract can say what a call of the system reads; proved is that the function ends, and that
-// its count lies within the buffer.
+// Standard input, for the programs, and any other reader, for the command. No contract can say what a call of the system reads; proved is that the function ends, that its count
+// lies within the buffer, and that a reader whose bytes are known gives them in order, and to its end where the buffer has room.
 #![tactic(auto)]
 
+ghost use Rattle.std.specs.Prelude.{◌≡◌, ◌<◌, take, length, None};
+ghost use Rattle.std.specs.Io.KnownBytes.{Consumes, IsAtEnd};
 ghost use Rattle.io.specs.Counts.{IsPrefixLen};
 
-// The bytes read, from the start of the buffer on, and whether a read failed before the input's end.
+use std::io::{Error, Read};
+
+// The bytes read, from the start of the buffer on, and why a read failed before the input's end, if one did.
 #[derive(Drop)]
 pub struct Input {
     pub length: usize,
-    pub failed: bool,
+    pub failure: Option<Error>,
 }
 
 // Reads until the buffer is full or the input ends, however many bytes each read brings.
-pub fn read_from(file: i32, buffer: &mut [u8]) -> Input
-    ensures { IsPrefixLen result.length buffer.new }
+pub fn read_from<R: Read>(reader: &mut R, buffer: &mut [u8]) -> Input
+    ensures fits { IsPrefixLen result.length buffer.new }
+    ensures bytes { Consumes (R.remaining reader.old) (R.remaining reader.new) (take result.length buffer.new) }
+    ensures whole { result.failure ≡ None → result.length < length buffer.new → IsAtEnd (R.remaining reader.new) }
 {
     let mut n: usize = 0;
     while n < buffer.len() {
-        let got = libc::read(file, &mut buffer[n..]);
-        if got < 0 {
-            return Input {
-                length: n,
-                failed: true,
-            };
+        match reader.read(&mut buffer[n..]) {
+            Err(error) => {
+                return Input {
+                    length: n,
+                    failure: Some(error),
+                };
+            }
+            Ok(0) => {
+                return Input {
+                    length: n,
+                    failure: None,
+                };
+            }
+            Ok(more) => n += more,
         }
-        let more = io::count(got, &buffer[n..]);
-        if more == 0 {
-            return Input {
-                length: n,
-                failed: false,
-            };
-        }
-        n += more;
     }
     Input {
         length: n,
-        failed: false,
+        failure: None,
     }
 }
 
-pub fn read_input(buffer: &mut [u8]) -> Input
+pub fn read_input(rt: &HostRuntime, buffer: &mut [u8]) -> Input
     ensures { IsPrefixLen result.length buffer.new }
 {
-    read_from(libc::STDIN_FILENO, buffer)
+    read_from(&mut rt.stdin(), buffer)
 }
