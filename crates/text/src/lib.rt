@@ -26,7 +26,7 @@ pub fn report(image: &[u8], out: &mut [u8; 128]) -> usize
 }
 
 // How many bytes go to standard output and to standard error.
-#[derive(Drop)]
+#[derive(Clone, Copy)]
 pub struct Printed {
     pub image: usize,
     pub line: usize,
