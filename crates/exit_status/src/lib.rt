@@ -9,7 +9,7 @@ use error::Refusal;
 use findings::{Found, Outcome};
 use scan::ScanResult;
 
-#[derive(Drop)]
+#[derive(Clone, Copy)]
 pub enum Verdict {
     Sound,
     Damaged,

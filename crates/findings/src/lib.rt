@@ -11,14 +11,14 @@ use mending::{MendResult, Mending};
 use scan::ScanResult;
 use view::ParseResult;
 
-#[derive(Drop)]
+#[derive(Clone, Copy)]
 pub struct Findings {
     pub regions: u16,
     pub needs_scrub: bool,
     pub report: ScanResult,
 }
 
-#[derive(Drop)]
+#[derive(Clone, Copy)]
 pub enum Found {
     TooLong,
     Refused(Refusal),
@@ -44,7 +44,7 @@ pub fn look(image: &[u8], limit: usize) -> Found
     }
 }
 
-#[derive(Drop)]
+#[derive(Clone, Copy)]
 pub enum Outcome {
     TooLong,
     Refused(Refusal),

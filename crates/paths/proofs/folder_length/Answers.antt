@@ -31,15 +31,3 @@ returns c =
 pub loop-i-init : goal.loop-i-init
 unfolding folder_length
 loop-i-init c = (omega arith, (omega arith, refl))
-
-pub bounds-path-i : goal.bounds-path-i
-bounds-path-i c = omega arith
-
-pub overflow_add-i : goal.overflow_add-i
-overflow_add-i c = omega arith
-
-pub overflow_add-i-in-loop-i : goal.overflow_add-i-in-loop-i
-overflow_add-i-in-loop-i c = omega arith
-
-pub loop-i-smaller : goal.loop-i-smaller
-loop-i-smaller c = omega arith

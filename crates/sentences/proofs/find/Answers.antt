@@ -29,12 +29,3 @@ returns c =
 
 pub loop-i-init : goal.loop-i-init
 loop-i-init c = (omega arith, omega arith)
-
-pub bounds-text-i : goal.bounds-text-i
-bounds-text-i c = omega arith
-
-pub overflow_add-i : goal.overflow_add-i
-overflow_add-i c = omega arith
-
-pub loop-i-smaller : goal.loop-i-smaller
-loop-i-smaller c = omega arith

@@ -27,15 +27,3 @@ returns c =
 
 pub loop-i-init : goal.loop-i-init
 loop-i-init c = (omega arith, omega arith)
-
-pub bounds-lines-i : goal.bounds-lines-i
-bounds-lines-i c = omega arith
-
-pub feeds_left-left-requires : goal.feeds_left-left-requires
-feeds_left-left-requires c = omega arith
-
-pub overflow_add-i : goal.overflow_add-i
-overflow_add-i c = omega arith
-
-pub loop-i-smaller : goal.loop-i-smaller
-loop-i-smaller c = omega arith

@@ -37,14 +37,5 @@ returns c =
 pub loop-i-init : goal.loop-i-init
 loop-i-init c = (omega arith, refl)
 
-pub bounds-a-i : goal.bounds-a-i
-bounds-a-i c = omega arith
-
 pub bounds-b-i : goal.bounds-b-i
 bounds-b-i c = omega (arith, c.if-a-b.false, c.loop-i-test.true)
-
-pub overflow_add-i : goal.overflow_add-i
-overflow_add-i c = omega arith
-
-pub loop-i-smaller : goal.loop-i-smaller
-loop-i-smaller c = omega arith

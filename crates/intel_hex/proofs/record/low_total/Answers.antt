@@ -10,12 +10,3 @@ loop-i-preserved c = one_summed _ _ _ _ c.loop-i.invariant (omega arith) c.wrapp
 
 pub returns : goal.returns
 returns c = all_summed _ _ _ c.loop-i.invariant (omega arith)
-
-pub bounds-bytes-i : goal.bounds-bytes-i
-bounds-bytes-i c = omega arith
-
-pub overflow_add-i : goal.overflow_add-i
-overflow_add-i c = omega arith
-
-pub loop-i-smaller : goal.loop-i-smaller
-loop-i-smaller c = omega arith

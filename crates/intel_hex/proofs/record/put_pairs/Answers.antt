@@ -6,38 +6,11 @@ use Rattle.intel_hex.proofs.record.put_pairs.Goals as goal
 pub loop-i-init : goal.loop-i-init
 loop-i-init c = none_paired _ _ _ (omega arith)
 
-pub bounds-bytes-i : goal.bounds-bytes-i
-bounds-bytes-i c = omega arith
-
-pub overflow_mul-text : goal.overflow_mul-text
-overflow_mul-text c = omega arith
-
-pub overflow_add-text : goal.overflow_add-text
-overflow_add-text c = omega arith
-
 pub bounds-text-at : goal.bounds-text-at
 bounds-text-at c = omega (arith, pair_room _ _ c.loop-i.invariant (omega arith))
 
-pub digit-requires-in-loop-i : goal.digit-requires-in-loop-i
-digit-requires-in-loop-i c = omega arith
-
-pub overflow_mul-text-in-loop-i : goal.overflow_mul-text-in-loop-i
-overflow_mul-text-in-loop-i c = omega arith
-
-pub overflow_add-text-in-loop-i : goal.overflow_add-text-in-loop-i
-overflow_add-text-in-loop-i c = omega arith
-
-pub overflow_add-text-in-loop-i-2 : goal.overflow_add-text-in-loop-i-2
-overflow_add-text-in-loop-i-2 c = omega arith
-
 pub bounds-text-at-in-loop-i : goal.bounds-text-at-in-loop-i
 bounds-text-at-in-loop-i c = simp length-set (omega (arith, pair_room _ _ c.loop-i.invariant (omega arith)))
-
-pub overflow_add-i : goal.overflow_add-i
-overflow_add-i c = omega arith
-
-pub loop-i-smaller : goal.loop-i-smaller
-loop-i-smaller c = omega arith
 
 pub loop-i-preserved : goal.loop-i-preserved
 loop-i-preserved c = pair_put _ _ c.loop-i.invariant _ _ (omega arith) c.digit.ensures c.digit-in-loop-i.ensures

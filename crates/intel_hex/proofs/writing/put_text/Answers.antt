@@ -8,23 +8,8 @@ loop-from-init c = none_written _ _ c.requires.0
 pub put_upper-line-requires : goal.put_upper-line-requires
 put_upper-line-requires c = (upper_room _ _ _ c.loop-from.invariant c.loop-from-test.true, omega arith)
 
-pub line_end-end-requires : goal.line_end-end-requires
-line_end-end-requires c = omega arith
-
-pub overflow_cast-from : goal.overflow_cast-from
-overflow_cast-from c = omega arith
-
-pub slice_bounds-put_record-count : goal.slice_bounds-put_record-count
-slice_bounds-put_record-count c = omega arith
-
 pub put_record-next-requires : goal.put_record-next-requires
 put_record-next-requires c = (line_room _ _ _ c.loop-from.invariant c.loop-from-test.true c.put_upper-line.ensures _ (line_part c.args.bytes.now c.loop-from.from c.line_end-end.result c.loop-from-test.true c.line_end-end.ensures.is), line_short c.args.bytes.now c.loop-from.from c.line_end-end.result (omega (arith, c.line_end-end.ensures.fits)) (omega (arith, c.line_end-end.ensures.fits)))
-
-pub overflow_add-from : goal.overflow_add-from
-overflow_add-from c = omega arith
-
-pub loop-from-smaller : goal.loop-from-smaller
-loop-from-smaller c = omega arith
 
 pub loop-from-preserved : goal.loop-from-preserved
 loop-from-preserved c = line_written _ _ _ c.loop-from.invariant c.loop-from-test.true c.put_upper-line.ensures _ (line_part c.args.bytes.now c.loop-from.from c.line_end-end.result c.loop-from-test.true c.line_end-end.ensures.is) c.put_record-next.ensures

@@ -1,0 +1,36 @@
+use mathlib.Core.Path.{◌≡◌, ap, ap₂, ◌∙◌}
+use mathlib.Core.Bool.{Bool}
+use mathlib.Core.Option.{Option}
+use Prim.Native.Nat.{ℕ}
+use Rattle.model.specs.Refusals.{fine}
+use Rattle.model.specs.Layout.{count}
+use Rattle.model.specs.Parse.{Parsed, parse_verdict}
+use Rattle.model.specs.Scan.{Report, scan_in, scan}
+use Rattle.model.specs.Programs.{image, found_in}
+use Rattle.model.proofs.ProgramsLaw.{look_long, look_short}
+use Rattle.view.proofs.AnswersLaw.{parsed_fine, parsed_count}
+use Rattle.scan.proofs.VisitLaw.{scan_is}
+use Rattle.findings.proofs.look.Goals as goal
+
+-- `findings::look` meets its contract. Assumes nothing.
+pub returns-then-image-limit : goal.returns-then-image-limit
+returns-then-image-limit c = let a = c.args in look_long a.limit a.image.now c.if-image-limit.true
+
+pub returns-in-Refused : goal.returns-in-Refused
+returns-in-Refused c =
+    let a = c.args in
+    let x = a.image.now in
+    ap (λ (o : Parsed). found_in o (scan x)) c.in-Refused.ensures ∙ look_short a.limit x c.if-image-limit.false
+
+pub returns-in-Parsed : goal.returns-in-Parsed
+returns-in-Parsed c =
+    let a = c.args in
+    let x = a.image.now in
+    let p = c.parse in
+    let h = c.in-Parsed.header in
+    let is = c.in-Parsed.is in
+    let n : h.region_count ≡ count x = parsed_count x p.result p.ensures h is in
+    let f : parse_verdict x ≡ fine = parsed_fine x p.result p.ensures h is in
+    let scanned = c.verify_all-report.ensures ∙ ap (λ (m : ℕ). scan_in m x) n ∙ scan_is x f in
+    ap₂ (λ (b : Bool) (s : Option Report). image h.region_count b s) c.needs_scrub.ensures scanned
+    ∙ ap (λ (o : Parsed). found_in o (scan x)) c.in-Parsed.ensures ∙ look_short a.limit x c.if-image-limit.false
