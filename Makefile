@@ -4,7 +4,7 @@
 #   make demo       damage the sample, look at it, mend it, and see that it is as it was
 #   make test       the gate: prove all from nothing, try every wrong program, compare with the Rust, run everything
 #   make check      the same
-#   make refused    see that each wrong program of crates/*/must-fail was refused where it is wrong; after rt ci
+#   make refused    see that each wrong program of crates/*/must-fail is refused where it is wrong
 #   make compare    run ours and the Rust on the same inputs (SEED=N for other random ones)
 #   make soak       the same with a hundred times the random inputs and a seed of its own
 #   make replay     hold ours against the recorded answers; needs no Rust
@@ -76,7 +76,7 @@ test check:
 	@sh tests/gate.sh
 
 refused:
-	@sh tests/refused.sh
+	@tests/refused.py
 
 compare: host/build/compare
 	host/build/compare 10 $(SEED)
