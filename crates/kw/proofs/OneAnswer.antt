@@ -1,17 +1,13 @@
 -- No two answers fit one promise, nor two sets of numbers or bytes that are left. Assumes nothing.
 use mathlib.Core.Path.{refl}
-use Rattle.model.proofs.OneAnswer.{OneAnswerAnd, OneAnswerAndBoth, Reading, agree}
+use Rattle.model.proofs.OneAnswer.{OneAnswerAnd, OneAnswerAndBoth, agree}
 use Rattle.kw.proofs.kw_parse.Reads as kw-parse
 use Rattle.kw.proofs.kw_scan.Reads as kw-scan
 use Rattle.kw.proofs.kw_scrub.Reads as kw-scrub
 use Rattle.kw.proofs.kw_mend.Reads as kw-mend
-use Rattle.kw.specs.contracts.kw_write as kw-write
+use Rattle.kw.proofs.kw_write.Reads as kw-write
 use Rattle.kw.proofs.regions.kw_region.Reads as kw-region
 use Rattle.kw.proofs.regions.kw_region_at.Reads as kw-region-at
-
--- `kw_write` is proved by hand, so that its clauses are read here, by computation, and not in a generated `Reads`.
-abbrev pub kw_write_reads : Reading kw-write.ended (λ M 𝓤. kw-write.clauses 𝓤)
-kw_write_reads = record { Learnt = _; reads = λ M 𝓤 𝓛 mem run κs a g r s. refl }
 
 -- ---- no two answers of a function fit its promise
 
@@ -33,5 +29,5 @@ one_answer_kw_scrub κs a r r' s s' p q = (agree p.0 q.0, (agree p.1.1 q.1.1, ag
 pub one_answer_kw_mend : OneAnswerAndBoth kw-mend.Learnt (λ κs s. s.0.now) (λ κs s. s.1.0.now)
 one_answer_kw_mend κs a r r' s s' p q = (agree p.0 q.0, (agree p.1.1 q.1.1, agree p.1.0 q.1.0))
 
-pub one_answer_kw_write : OneAnswerAndBoth kw_write_reads.Learnt (λ κs s. s.1.1.0.now) (λ κs s. s.1.1.1.0.now)
+pub one_answer_kw_write : OneAnswerAndBoth kw-write.Learnt (λ κs s. s.1.1.0.now) (λ κs s. s.1.1.1.0.now)
 one_answer_kw_write κs a r r' s s' p q = (agree p.0 q.0, (agree p.2 q.2, agree p.1 q.1))

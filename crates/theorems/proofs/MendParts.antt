@@ -45,6 +45,7 @@ mends x y r k t b h = go (mend_verdict x) refl h
 -- a total of 0 is 0 at each
 pub none_total : (f : Class → ℕ) (x : List ℕ) (ps : List Codeword) → total f (classes_at x ps) ≡ 0 → (q c : ℕ) → Among q c ps → f (decode (word_at x q) (at x c)) ≡ 0
 unfolding total classes_at class_at
+none_total f x [] e q c m = elim m [ ]
 none_total f x (p ∷ ps) e q c (here g h) =
     ap₂ (λ (w d : ℕ). f (decode (word_at x w) (at x d))) (sym g) (sym h) ∙ first
   where

@@ -5,7 +5,8 @@ use mathlib.Core.Logic.{◌⊎◌}
 use Prim.Native.Nat.{ℕ}
 use native.Mathlib.Omega.{arith}
 use contract.Lifetimes.{Lfts}
-use Rattle.writer.proofs.OneAnswer.{write_reads, one_written}
+use Rattle.writer.proofs.OneAnswer.{one_written}
+use Rattle.writer.proofs.write.Reads as writes
 use lib.ListN.{length, take, drop}
 use lib.Seq.{take-append_seam}
 use Rattle.model.specs.Refusals.{Verdict, fine, refuse}
@@ -49,8 +50,7 @@ scrub_promised κs a r ws p = record { answer = p.0; leaves = p.1 }
 pub command_promised : (κs : Lfts 2) (a : _) (r : _) (ws : _) → command.Learnt κs a r ws → Prints a.0.now a.1.0.now r ws.0.now ws.1.0.now
 command_promised κs a r ws p = record { written = p.1.1.1.0.1; said = p.1.0 }
 
--- `write` is proved by hand, so that its clauses are read by `write_reads` and not in a generated module
-pub write_promised : (κs : Lfts 3) (a : _) (r : _) (s : _) → write_reads.Learnt κs a r s → Writes a.0.now a.1.0.now a.1.1.0.now r s.1.1.0.now
+pub write_promised : (κs : Lfts 3) (a : _) (r : _) (s : _) → writes.Learnt κs a r s → Writes a.0.now a.1.0.now a.1.1.0.now r s.1.1.0.now
 write_promised κs a r s p = record { answer = p.0; leaves = p.1 }
 
 -- ---- the writer wrote n bytes
