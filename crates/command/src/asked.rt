@@ -10,12 +10,12 @@ use std::rt::Env;
 // The system's number for a name that is too long, ENAMETOOLONG.
 const TOO_LONG: i32 = 36;
 
-fn is_given(rt: &impl Env, i: usize) -> bool {
+fn is_given(rt: &HostRuntime, i: usize) -> bool {
     !matches!(rt.arg(i, &mut []), Err(FillError::NotPresent))
 }
 
 // How many arguments there are, the command's own name among them.
-pub(crate) fn count(rt: &impl Env) -> usize {
+pub(crate) fn count(rt: &HostRuntime) -> usize {
     let mut count: usize = 0;
     for i in 0..usize::MAX {
         if !is_given(rt, i) {
@@ -27,7 +27,7 @@ pub(crate) fn count(rt: &impl Env) -> usize {
 }
 
 // Argument i, which is too long for any name where it does not fit.
-pub(crate) fn argument(rt: &impl Env, i: usize, word: &mut [u8]) -> Result<usize, Error>
+pub(crate) fn argument(rt: &HostRuntime, i: usize, word: &mut [u8]) -> Result<usize, Error>
     ensures { IfOk result (λ n. IsPrefixLen n word.new) }
 {
     match rt.arg(i, word) {
@@ -37,7 +37,7 @@ pub(crate) fn argument(rt: &impl Env, i: usize, word: &mut [u8]) -> Result<usize
 }
 
 // What argument i is. One that is longer than any name is taken for a name, which can't be opened.
-pub(crate) fn word_at(rt: &impl Env, i: usize) -> u8 {
+pub(crate) fn word_at(rt: &HostRuntime, i: usize) -> u8 {
     let mut word = io::buffer();
     match argument(rt, i, &mut word) {
         Ok(n) => arguments::word(&word[..n]),
@@ -45,7 +45,7 @@ pub(crate) fn word_at(rt: &impl Env, i: usize) -> u8 {
     }
 }
 
-pub(crate) fn invocation(rt: &impl Env, count: usize) -> Invocation {
+pub(crate) fn invocation(rt: &HostRuntime, count: usize) -> Invocation {
     let mut invocation = arguments::start();
     for i in 1..count {
         invocation = arguments::step(invocation, i, word_at(rt, i));
@@ -54,7 +54,7 @@ pub(crate) fn invocation(rt: &impl Env, count: usize) -> Invocation {
 }
 
 // The argument that is at fault, or none where one is missing.
-pub(crate) fn argument_at_fault(rt: &impl Env, place: usize, word: &mut [u8]) -> usize
+pub(crate) fn argument_at_fault(rt: &HostRuntime, place: usize, word: &mut [u8]) -> usize
     ensures { IsPrefixLen result word.new }
 {
     if place == 0 {

@@ -4,6 +4,7 @@ use std::fs::{File, OpenOptions};
 use std::io::{Error, ErrorKind};
 use std::os::unix::fs::OpenOptionsExt;
 use std::random::RandomSource;
+use std::rt::Files;
 
 const LETTERS: &[u8; 62] = b"abcdefghijklmnopqrstuvwxyzABCDEFGHIJKLMNOPQRSTUVWXYZ0123456789";
 
@@ -28,19 +29,16 @@ fn put_letters(place: &mut [u8], number: u64) {
 }
 
 // Any number does, also where the system gives none.
-fn any_number(rt: &impl RandomSource) -> u64 {
+fn any_number(rt: &HostRuntime) -> u64 {
     let mut bytes = [0u8; 8];
     let _ = rt.fill_bytes(&mut bytes);
     u64::from_le_bytes(bytes)
 }
 
 fn create_private(rt: &HostRuntime, name: &[u8]) -> Result<File, Error> {
-    OpenOptions::new()
-        .read(true)
-        .write(true)
-        .create_new(true)
-        .mode(0o600)
-        .open(rt, path(name)?)
+    let mut how = OpenOptions::new();
+    how.read(true).write(true).create_new(true).mode(0o600);
+    rt.open_file(&how, path(name)?)
 }
 
 // Makes a file of that name, with other letters or digits as its last six bytes.

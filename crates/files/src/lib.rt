@@ -13,8 +13,9 @@ ghost use Rattle.io.specs.Counts.{IsPrefixLen};
 use failure::Gone;
 use names::path;
 pub use saving::save;
-use std::fs::File;
+use std::fs::{File, OpenOptions};
 use std::io::{Error, Read, Write};
+use std::rt::Files;
 use stdin::Input;
 
 // Says why the system failed at a file.
@@ -55,8 +56,10 @@ fn read_open<R: Read>(
     Ok(input)
 }
 
+// Here and in the other files the handle's own methods are called. The functions of std::fs take any handle, so a proof with
+// them rests on the contracts of all that a handle can ask of the system.
 fn open(rt: &HostRuntime, name: &[u8]) -> Result<File, Error> {
-    File::open(rt, path(name)?)
+    rt.open_file(OpenOptions::new().read(true), path(name)?)
 }
 
 fn read_named(rt: &HostRuntime, name: &[u8], image: &mut [u8]) -> Result<Input, Gone>

@@ -3,8 +3,8 @@ ghost use Rattle.std.specs.Prelude.{IfOk};
 ghost use Rattle.io.specs.Counts.{IsPrefixLen};
 
 use crate::names::{not_text, path};
-use std::fs;
 use std::io::{Error, ErrorKind};
+use std::rt::Files;
 
 const MOST_LINKS: usize = 40;
 
@@ -21,7 +21,7 @@ fn copied(name: &[u8], target: &mut [u8]) -> usize
 fn link_text(rt: &HostRuntime, name: &[u8], link: &mut [u8]) -> Result<usize, Error>
     ensures { IfOk result (λ n. IsPrefixLen n link.new) }
 {
-    match fs::read_link(rt, path(name)?) {
+    match rt.read_link(rt.alloc(), path(name)?) {
         Ok(text) => Ok(copied(text.as_path().as_str().as_bytes(), link)),
         Err(error) if error.raw_os_error().is_some() => Ok(0),
         Err(error) if error.kind() == ErrorKind::InvalidFilename => Err(not_text()),

@@ -4,10 +4,10 @@ use crate::names::path;
 use crate::{beside, open, print, told};
 use failure::Gone;
 use filestat::FileKind;
-use std::fs;
 use std::fs::{File, OpenOptions, Permissions};
 use std::io::{Error, ErrorKind, Write};
 use std::os::unix::fs::{PermissionsExt, fchown};
+use std::rt::Files;
 
 // What a mode says of a file's kind, and a regular file's answer.
 const KIND: u32 = 0o170_000;
@@ -44,11 +44,11 @@ fn sync_folder(rt: &HostRuntime, target: &[u8]) {
 }
 
 fn rename(rt: &HostRuntime, from: &[u8], to: &[u8]) -> Result<(), Error> {
-    fs::rename(rt, path(from)?, path(to)?)
+    rt.rename(path(from)?, path(to)?)
 }
 
 fn remove(rt: &HostRuntime, name: &[u8]) -> Result<(), Error> {
-    fs::remove_file(rt, path(name)?)
+    rt.remove_file(path(name)?)
 }
 
 fn fill_and_rename(
@@ -110,10 +110,10 @@ fn save_open(rt: &HostRuntime, name: &[u8], mut file: File, image: &[u8]) -> Res
 }
 
 fn make(rt: &HostRuntime, target: &[u8]) -> Result<File, Error> {
-    OpenOptions::new()
-        .write(true)
-        .create_new(true)
-        .open(rt, path(target)?)
+    rt.open_file(
+        OpenOptions::new().write(true).create_new(true),
+        path(target)?,
+    )
 }
 
 // A new file is made first, empty, as the system makes files for this user; where the image can't be written it goes again.
@@ -133,7 +133,7 @@ fn save_new(rt: &HostRuntime, name: &[u8], image: &[u8]) -> Result<(), Error> {
 }
 
 fn open_append(rt: &HostRuntime, name: &[u8]) -> Result<File, Error> {
-    OpenOptions::new().append(true).open(rt, path(name)?)
+    rt.open_file(OpenOptions::new().append(true), path(name)?)
 }
 
 fn save_named(rt: &HostRuntime, name: &[u8], image: &[u8]) -> Result<(), Error> {

@@ -1,7 +1,7 @@
 // What the system says of an open file. No contract can say what that is.
 #![tactic(auto)]
 
-use std::fs::{Metadata, OpenFile};
+use std::fs::{File, Metadata};
 use std::os::unix::fs::MetadataExt;
 
 // A file that the system says nothing of has mode 0.
@@ -28,7 +28,7 @@ fn known(metadata: &Metadata) -> FileKind {
     }
 }
 
-pub fn about(file: &impl OpenFile) -> FileKind {
+pub fn about(file: &File) -> FileKind {
     match file.metadata() {
         Ok(metadata) => known(&metadata),
         Err(_) => unknown(),

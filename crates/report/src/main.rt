@@ -14,7 +14,7 @@ fn main(rt: HostRuntime) -> ExitCode {
     failure::exit_code(run(&rt))
 }
 
-fn has_argument(rt: &impl Env) -> bool {
+fn has_argument(rt: &HostRuntime) -> bool {
     !matches!(rt.arg(1, &mut []), Err(FillError::NotPresent))
 }
 
