@@ -4,7 +4,7 @@
 #   make demo       damage the sample, look at it, mend it, and see that it is as it was
 #   make test       the gate: prove all from nothing, try every wrong program, compare with the Rust, run everything
 #   make check      the same
-#   make refused    see that each wrong program of crates/*/must-fail was refused where it is wrong; after rt ci
+#   make refused    see that each wrong program of crates/*/must-fail is refused where it is wrong
 #   make compare    run ours and the Rust on the same inputs (SEED=N for other random ones)
 #   make soak       the same with a hundred times the random inputs and a seed of its own
 #   make replay     hold ours against the recorded answers; needs no Rust
@@ -37,7 +37,7 @@ KW_TEST_LIB = target/staticlib/libkw_test.a
 KW_LIB = target/staticlib/libkw.a
 PROGRAMS = target/bin/report target/bin/scrub
 ARCHIVES = target/staticlib/libkw_test.a target/staticlib/libkw.a
-PROVED = crates.txt $(shell find crates -name '*.rt' -o -name '*.antt')
+PROVED = crates.txt $(shell find crates -name out -prune -o \( -name '*.rt' -o -name '*.antt' \) -print)
 
 # The library's version, and its functions, are those of kw.h.
 VERSION_OF = $(shell sed -n 's/^.define KW_LIBRARY_VERSION_$(1) //p' include/kw.h)
@@ -48,7 +48,7 @@ FUNCTIONS = $(shell sed -n 's/^[a-z].*[ *]\(kw_[a-z_]*\)[()].*/\1/p' include/kw.
 USED = $(strip target/staticlib/libkw.a host/build/$(SONAME) $(PROGRAMS) bin/kw host/build/sample.kw)
 
 all:
-	@sh host/prove.sh check
+	@sh host/prove.sh
 	@echo "all crates are proved; now the libraries, the programs and a sample image"
 	@$(MAKE) -s $(USED)
 	@echo "built $(USED)"
@@ -56,19 +56,14 @@ all:
 archives: $(ARCHIVES)
 
 target/staticlib/lib%.a: $(PROVED)
-	sh host/prove.sh staticlib $*
-	test -s $@
+	sh host/archive.sh $*
 
 target/bin/%: $(PROVED)
-	sh host/prove.sh check $*
-	touch $@
+	sh host/program.sh $* $@
 
-# The kit's C, for files and arguments, lies beside the kit's documents.
-KIT = $(dir $(shell rt doc))..
-
-bin/kw: host/kw.c target/staticlib/libcommand.a
-	mkdir -p bin
-	$(CC_STRICT) -O2 host/kw.c target/staticlib/libcommand.a $(KIT)/lib/libos_c.a -o $@
+# The command is run once by rt, and would have status 3 where it is asked for nothing.
+bin/kw: $(PROVED)
+	sh host/program.sh command $@ version
 
 host/build/sample.kw: host/build/make_image
 	host/build/make_image >$@
@@ -81,7 +76,7 @@ test check:
 	@sh tests/gate.sh
 
 refused:
-	@sh tests/refused.sh
+	@tests/refused.py
 
 compare: host/build/compare
 	host/build/compare 10 $(SEED)
@@ -149,7 +144,7 @@ uninstall:
 	rm -f $(addprefix $(DESTDIR),$(INSTALLED))
 
 clean:
-	rm -rf target host/build bin
+	rm -rf target host/build bin crates/*/out
 
 help:
 	@sed -n 's/^#   //p' Makefile

@@ -51,18 +51,22 @@ count() { # FORM
 }
 
 gate_began=$(date +%s)
-# Nothing that an earlier run built is trusted; rt ci does the same with the rest of target/.
-rm -rf host/build target/staticlib bin
 mkdir -p "$logs"
 
 part prove rt ci
-count '([0-9]+) passed, ([0-9]+) failed'
+count '([0-9]+) passed, ([0-9]+) failed( \(.*\))?'
+# An edit whose text no longer stands fails nothing in rt ci, and shows nothing.
+! grep -E '^rt: ok.*, [0-9]+ bad' "$log.log" || fail "a must-fail edit is bad"
+
+# Nothing that an earlier run built is trusted.
+find host/build -mindepth 1 -maxdepth 1 ! -name gate -exec rm -rf {} +
+rm -rf target bin
 
 part refused make refused
 count 'wrong programs ([0-9]+) passed, ([0-9]+) failed'
 
 # Two at a time: each proves its crate once more.
-part archives sh -c 'echo kw_test command kw | xargs -n 1 -P 2 sh host/archive.sh'
+part archives sh -c 'echo kw_test kw | xargs -n 1 -P 2 sh host/archive.sh'
 must_end_well
 
 if [ -d "$KW_ORACLE" ]; then

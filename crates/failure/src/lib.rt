@@ -1,7 +1,9 @@
 // Why the system failed, said in its own words, and how a program ends whose reader is gone.
 #![tactic(auto)]
 
-ghost use Rattle.std.specs.Prelude.{◌≡◌, MatchResult};
+ghost use Rattle.std.specs.Prelude.{◌≡◌, ◌↔◌, IsErr, MatchResult};
+ghost use Rattle.std.specs.Io.KnownBytes.{Keeps};
+ghost use Rattle.std.specs.IoError.{error_kind};
 ghost use Rattle.std.specs.Process.{exit_status};
 
 use std::fmt::InlineText;
@@ -27,7 +29,9 @@ pub fn exit_code(ended: Result<u8, Gone>) -> ExitCode
     }
 }
 
-fn stay(error: Error) -> Result<(), Gone> {
+fn stay(error: Error) -> Result<(), Gone>
+    ensures { IsErr result ↔ (error_kind error ≡ ErrorKind.BrokenPipe) }
+{
     if error.kind() == ErrorKind::BrokenPipe {
         return Err(Gone);
     }
@@ -50,8 +54,11 @@ fn without_number(reason: &str) -> &str {
     }
 }
 
-// A line: what failed, and why.
-pub fn say<W: Write>(to: &mut W, subject: &[u8], error: Error) -> Result<(), Gone> {
+// A line: what failed, and why. Nothing is said where the failure is that a reader is gone.
+pub fn say<W: Write>(to: &mut W, subject: &[u8], error: Error) -> Result<(), Gone>
+    ensures gone { error_kind error ≡ ErrorKind.BrokenPipe → IsErr result }
+    ensures silent { error_kind error ≡ ErrorKind.BrokenPipe → Keeps (W.contents to.old) (W.contents to.new) }
+{
     stay(error)?;
     let reason = InlineText::<LONGEST_REASON>::of(error);
     tell(to, subject)?;

@@ -2,8 +2,8 @@
 use mathlib.Core.Path.{◌≡◌, refl}
 use mathlib.Core.Bool.{true, false}
 use mathlib.Core.List.{List, [], ◌∷◌, ◌++◌}
-use mathlib.Core.Option.{none, some}
-use Prim.Native.Nat.{ℕ, ◌+◌}
+use mathlib.Core.Option.{some}
+use Prim.Native.Nat.{ℕ}
 use lib.Count.{ones}
 use lib.ListN.{length, set, replicate}
 use Rattle.bits.specs.Bit.{bit}

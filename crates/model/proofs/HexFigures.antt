@@ -1,13 +1,9 @@
 -- Small texts and readings, by computation. Assumes nothing.
 use mathlib.Core.Path.{◌≡◌, refl}
-use mathlib.Core.Bool.{cond}
-use mathlib.Core.List.{List, [], ◌∷◌, ◌++◌}
-use Prim.Native.Nat.{ℕ}
-use lib.Dec.{ltb}
-use lib.ListN.{length}
-use Rattle.model.specs.Refusals.{Verdict, fine, refuse}
+use mathlib.Core.List.{[], ◌∷◌}
+use Rattle.model.specs.Refusals.{fine, refuse}
 use Rattle.model.specs.Programs.{text, lines}
-use Rattle.model.specs.Hex.{digit_of, pairs_of, total, record_bytes, sum_byte, record_line, upper_lines, data_lines, end_line, hex_text, Outcome, hex_read, read_lines, lines_of, record_on, record_in, record_of_lem, bytes_in, value_of}
+use Rattle.model.specs.Hex.{digit_of, pairs_of, total, record_bytes, sum_byte, record_line, upper_lines, data_lines, end_line, hex_text, hex_read, read_lines, lines_of, record_on, record_in, record_of_lem, bytes_in, value_of}
 
 no_bytes : hex_text [] ≡ text ":00000001FF\n"
 unfolding hex_text data_lines end_line record_line pairs_of digit_of record_bytes sum_byte total lines text
