@@ -81,7 +81,7 @@ def is_refused(crate, at, log):
     if any(line.startswith(proofs) and ": error: " in line and not GONE.search(line) for line in log):
         return True
     # the lines between the one on the function before and its own
-    mine = [n for n, line in enumerate(log) if re.match(rf"fn {re.escape(crate)}::{re.escape(at)}: not proved", line)]
+    mine = [n for n, line in enumerate(log) if re.match(rf"fn {re.escape(crate)}::{re.escape(at)}: (not proved|no proof: expected answers)", line)]
     for end in mine:
         start = end
         while start and not re.match(r"(fn|enum|struct) ", log[start - 1]):
