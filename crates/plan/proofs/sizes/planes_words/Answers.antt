@@ -10,9 +10,6 @@ use Rattle.plan.proofs.sizes.planes_words.Goals.{then-is_protected, else-is_prot
 small_plane : (x w : ℕ) → x < 18446744073709551616 → w ≡ (x / 4294967296 + 7) / 8 → w ≤ 4294967295
 small_plane x w h e = omega (arith, h, e)
 
-pub overflow_add-sum : goal.overflow_add-sum
-overflow_add-sum c = let h = c.loop-i.invariant.1 in let s = small_plane _ _ (c.type_inv.rows c.loop-i.i).fits c.plane_words-sum.ensures in omega (arith, h, s)
-
 pub loop-i-preserved : goal.loop-i-preserved
 loop-i-preserved c =
     let a = c.loop-i in

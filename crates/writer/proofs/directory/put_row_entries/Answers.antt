@@ -20,15 +20,3 @@ shape_of-out c = kept_length _ _ _ c.loop-i.invariant.going
 
 pub returns : goal.returns
 returns c = rows_done _ _ _ _ c.loop-i.invariant (omega arith)
-
-pub offset_bounds-rows-i : goal.offset_bounds-rows-i
-offset_bounds-rows-i c = omega arith
-
-pub bounds-rows-i : goal.bounds-rows-i
-bounds-rows-i c = omega arith
-
-pub overflow_add-i : goal.overflow_add-i
-overflow_add-i c = omega arith
-
-pub loop-i-smaller : goal.loop-i-smaller
-loop-i-smaller c = omega arith

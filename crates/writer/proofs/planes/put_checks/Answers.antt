@@ -31,12 +31,3 @@ shape_of-out c = kept_length _ _ _ c.loop-w.invariant.going
 
 pub returns : goal.returns
 returns c = let g = c.args in all_put _ _ c.loop-w.invariant (omega (arith, length_checks g.words g.b.now))
-
-pub overflow_mul-w : goal.overflow_mul-w
-overflow_mul-w c = omega arith
-
-pub overflow_add-w : goal.overflow_add-w
-overflow_add-w c = omega arith
-
-pub loop-w-smaller : goal.loop-w-smaller
-loop-w-smaller c = omega arith

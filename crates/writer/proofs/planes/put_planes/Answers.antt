@@ -61,9 +61,3 @@ shape_of-out c = kept_length _ _ _ c.loop-i.invariant.going
 
 pub returns : goal.returns
 returns c = checks_done _ _ _ _ c.loop-i.invariant (omega arith)
-
-pub overflow_add-i : goal.overflow_add-i
-overflow_add-i c = omega arith
-
-pub loop-i-smaller : goal.loop-i-smaller
-loop-i-smaller c = omega arith
