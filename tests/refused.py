@@ -96,7 +96,8 @@ def verdicts(edit, crate, top, promises):
     text = open(edit, encoding="utf-8").read()
     programs = WRONG.findall(text)
     places = [at for _, at in programs]
-    if not programs or not text.startswith("wrong: ") or len(set(places)) < len(places):
+    paragraphs = [it for it in text.split("\n\n") if it.strip()]
+    if len(programs) < len(paragraphs) or not all(WRONG.match(it.lstrip("\n")) for it in paragraphs) or len(set(places)) < len(places):
         return [("", "a paragraph does not start with 'wrong: LABEL, at FUNCTION', or two are of one function")]
     try:
         log = said(edit, crate, top).splitlines()
