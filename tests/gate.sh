@@ -58,7 +58,7 @@ count '([0-9]+) passed, ([0-9]+) failed( \(.*\))?'
 # An edit whose text no longer stands fails nothing in rt ci, and shows nothing.
 ! grep -E '^rt: ok.*, [0-9]+ bad' "$log.log" || fail "a must-fail edit is bad"
 
-# Nothing that an earlier run built is trusted.
+# Programs, archives and what else make built before are not trusted; rt keeps its own by what it read.
 find host/build -mindepth 1 -maxdepth 1 ! -name gate -exec rm -rf {} +
 rm -rf target bin
 
