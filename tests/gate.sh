@@ -62,10 +62,7 @@ count '([0-9]+) passed, ([0-9]+) failed( \(.*\))?'
 find host/build -mindepth 1 -maxdepth 1 ! -name gate -exec rm -rf {} +
 rm -rf target bin
 
-part refused make refused
-count 'wrong programs ([0-9]+) passed, ([0-9]+) failed'
-
-# Two at a time: each proves its crate once more.
+# Two at a time: each proves its crate and those below it once more.
 part archives sh -c 'echo kw_test kw | xargs -n 1 -P 2 sh host/archive.sh'
 must_end_well
 
@@ -92,6 +89,10 @@ must_end_well
 
 part api make api
 count 'api ([0-9]+) passed, ([0-9]+) failed'
+
+# Last, since its copies of the crates begin with what was built for the parts before.
+part refused make refused
+count 'wrong programs ([0-9]+) passed, ([0-9]+) failed'
 
 echo "== the gate took $(($(date +%s) - gate_began)) s"
 echo "$passed passed, $failed failed"
