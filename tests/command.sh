@@ -248,6 +248,41 @@ run mend "$damaged.kw" -o "$work/place/loop"
 err_is "kw: $work/place/loop: Too many levels of symbolic links"
 ended "mend into a link to itself" 3
 
+# Names, and links on the way to a file that is written, are text.
+not_text='Invalid or incomplete multibyte or wide character'
+fresh
+odd=$work/place/$(printf 'odd\377')
+cp "$damaged.kw" "$odd"
+nothing
+for command in report mend; do
+    run $command "$odd"
+    err_is "kw: $odd: $not_text"
+    ended "$command, a name that is not UTF-8" 3
+done
+same "mend, a name that is not UTF-8, the file" "$odd" "$damaged.kw"
+run mend - <"$odd"
+cp "$damaged.scrub" "$work/want-out"
+err_is "stored 2"
+ended "mend, the same file on standard input" 0
+nothing
+ln -s "$odd" "$work/place/link"
+run mend "$work/place/link"
+err_is "kw: $work/place/link: $not_text"
+ended "mend through a link that is not UTF-8" 3
+same "mend through a link that is not UTF-8, the file" "$odd" "$damaged.kw"
+run report "$work/place/link"
+cp "$damaged.report" "$work/want-out"
+err_is
+ended "report through a link that is not UTF-8" 1
+
+# A reader that is gone ends the command, and nothing is said.
+nothing
+: >"$work/out"
+for command in report mend; do
+    { { sleep 0.3; cat "$one.kw"; } | "$kw" $command - 2>"$work/err"; echo $? >"$work/status"; } | :
+    ended "$command, a reader that is gone" 141
+done
+
 # Into the file itself, into a pipe, and by a name in the present folder.
 fresh
 run mend "$work/place/image.kw" -o "$work/place/image.kw"

@@ -100,7 +100,7 @@ for program in report scrub; do
     wrote "$program, an argument" "$work/nothing" "$work/said"
 done
 
-# A reader that is gone ends the program by the signal that says so, as it ends any other.
+# A reader that is gone ends the program with the status that a shell shows of SIGPIPE, and nothing is said.
 { { sleep 0.3; cat "$one.kw"; } | "$bin/scrub" 2>"$work/err"; echo $? >"$work/status"; } | :
 says 141
 if cmp "$work/status" "$work/said" && cmp "$work/err" "$work/nothing"; then
