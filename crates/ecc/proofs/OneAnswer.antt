@@ -1,6 +1,6 @@
 -- No two answers fit one promise. (`as_outcome`, `as_word` and `as_report` tell every two apart: each is read back from what they make of it.) Assumes nothing.
 use mathlib.Core.Path.{◌≡◌, refl, sym, ap, ◌∙◌}
-use mathlib.Core.Option.{Option, none, some}
+use Rattle.std.specs.Prelude.{Option, None, Some}
 use Rattle.model.specs.Parity.{Outcome, clean_word, corrected_word, uncorrectable_word}
 use Rattle.model.specs.Scan.{Report}
 use Rattle.model.proofs.OneAnswer.{OneAnswer, OneAnswerAnd, agree}
@@ -37,8 +37,8 @@ pub one_status : (a b : WordStatus) → as_outcome a ≡ as_outcome b → a ≡ 
 one_status a b e = sym (status_back a) ∙ ap status e ∙ status_back b
 
 word : Option Outcome → PlaneWord
-word (some o) = Word (status o)
-word none = Nothing
+word (Some o) = Word (status o)
+word None = Nothing
 
 word_back : (p : PlaneWord) → word (as_word p) ≡ p
 unfolding word

@@ -1,7 +1,7 @@
 -- A word of a plane's region and a run of them, as the code takes them: by number, and one after the other. Assumes nothing.
 use mathlib.Core.Path.{◌≡◌, sym, ap, ◌∙◌}
 use mathlib.Core.List.{List, []}
-use mathlib.Core.Option.{none, some}
+use Rattle.std.specs.Prelude.{None, Some}
 use Prim.Native.Nat.{ℕ, ◌+◌, ◌*◌, ◌≤◌, ◌<◌}
 use native.Mathlib.Numerals.{add-one}
 use native.Mathlib.Omega.{arith}
@@ -19,11 +19,11 @@ use Rattle.ecc.specs.CheckTable.{check_with, decode_with, slice_scan_with}
 
 module _ (x plane : List ℕ) where
   -- word w, past the shorter of the two and before
-  pub word_past : (w : ℕ) → slice_words x plane ≤ w → none ≡ slice_word x plane w
+  pub word_past : (w : ℕ) → slice_words x plane ≤ w → None ≡ slice_word x plane w
   unfolding slice_word
   word_past w h = rw (le-ltb w (slice_words x plane) h)
 
-  pub word_there : (w : ℕ) → w < slice_words x plane → some (outcome (word_at x w) (at plane w)) ≡ slice_word x plane w
+  pub word_there : (w : ℕ) → w < slice_words x plane → Some (outcome (word_at x w) (at plane w)) ≡ slice_word x plane w
   unfolding slice_word
   word_there w h = rw (lt-ltb w (slice_words x plane) h)
 

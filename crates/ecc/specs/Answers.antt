@@ -1,6 +1,5 @@
 -- The model's reading of each answer. (FORMAT 7)
-use Rattle.std.specs.Prelude.{ℕ, cond, ltb}
-use Rattle.std.proofs.Math.Option.{Option, none, some}
+use Rattle.std.specs.Prelude.{ℕ, cond, ltb, Option, None, Some}
 use Rattle.model.specs.Parity.{Class, flipped, uncorrectable, Outcome, clean_word, corrected_word, uncorrectable_word}
 use Rattle.model.specs.Scan.{Report}
 use Rattle.ecc.specs.declared.WordStatus.{WordStatus}
@@ -15,8 +14,8 @@ as_outcome (Corrected w) = corrected_word w
 as_outcome Uncorrectable = uncorrectable_word
 
 abbrev pub as_word : PlaneWord → Option Outcome
-as_word (Word s) = some (as_outcome s)
-as_word Nothing = none
+as_word (Word s) = Some (as_outcome s)
+as_word Nothing = None
 
 abbrev pub as_report : EccReport → Report
 as_report r = record { words = r.words; corrected = r.corrected; uncorrectable = r.uncorrectable }
@@ -25,8 +24,8 @@ as_report r = record { words = r.words; corrected = r.corrected; uncorrectable =
 
 -- a place among the 72 columns; 72 stands for none
 abbrev pub place_in : Option ℕ → ℕ
-place_in none = 72
-place_in (some i) = i
+place_in None = 72
+place_in (Some i) = i
 
 -- bit i of the 72 is flipped; 72 stands for uncorrectable
 abbrev pub class_of_bit : ℕ → Class

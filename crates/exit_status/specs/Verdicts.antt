@@ -1,6 +1,5 @@
 -- What is wrong with an image, and the exit status that says so. (FORMAT 14)
-use Rattle.std.specs.Prelude.{Bool, true, false, not, ◌||◌, ℕ, ltb}
-use Rattle.std.proofs.Math.Option.{Option, none, some}
+use Rattle.std.specs.Prelude.{Bool, true, false, not, ◌||◌, ℕ, ltb, Option, None, Some}
 use Rattle.model.specs.Scan.{Report}
 use Rattle.scan.specs.Answers.{as_scan}
 use Rattle.findings.specs.Answers.{uncorrectable_in}
@@ -12,8 +11,8 @@ use Rattle.exit_status.specs.declared.Verdict.{Verdict}
 use Rattle.exit_status.specs.declared.Verdict.TheVariants.{Sound, Damaged, TooLong, Refused}
 
 abbrev pub damaged_in : Option Report → Bool
-damaged_in none = false
-damaged_in (some r) = ltb 0 r.corrected || ltb 0 r.uncorrectable
+damaged_in None = false
+damaged_in (Some r) = ltb 0 r.corrected || ltb 0 r.uncorrectable
 
 abbrev pub verdict_if : Bool → Verdict
 verdict_if true = Damaged

@@ -1,6 +1,5 @@
 -- The model's reading of what is found in an image and made of it, and what is left of the image. (FORMAT 11, 14)
-use Rattle.std.specs.Prelude.{List, ℕ}
-use Rattle.std.proofs.Math.Option.{Option, none, some}
+use Rattle.std.specs.Prelude.{List, ℕ, Option, None, Some}
 use Rattle.model.specs.Scan.{Report}
 use Rattle.model.specs.Mend.{MendAnswer, refused_mend}
 use Rattle.model.specs.Programs as model
@@ -19,14 +18,14 @@ as_found (found.Image f) = model.image f.regions f.needs_scrub (as_scan f.report
 
 -- what mend_within answered, with the image y that it leaves, as the model's answer
 abbrev pub as_outcome : Outcome → List ℕ → Option MendAnswer
-as_outcome outcome.TooLong y = none
-as_outcome (outcome.Refused r) y = some (refused_mend (number_of r) (detail_of r))
-as_outcome (outcome.Mended m) y = some (as_mending m y)
+as_outcome outcome.TooLong y = None
+as_outcome (outcome.Refused r) y = Some (refused_mend (number_of r) (detail_of r))
+as_outcome (outcome.Mended m) y = Some (as_mending m y)
 
 abbrev pub left_within : Option MendAnswer → List ℕ → List ℕ
-left_within none x = x
-left_within (some m) x = left_by m x
+left_within None x = x
+left_within (Some m) x = left_by m x
 
 abbrev pub uncorrectable_in : Option Report → ℕ
-uncorrectable_in none = 0
-uncorrectable_in (some r) = r.uncorrectable
+uncorrectable_in None = 0
+uncorrectable_in (Some r) = r.uncorrectable

@@ -2,7 +2,7 @@
 use mathlib.Core.Path.{◌≡◌, refl, sym, ap, ◌∙◌, subst}
 use mathlib.Core.Bool.{Bool, true, false, ◌&&◌, cond}
 use mathlib.Core.List.{List, [], ◌∷◌, ◌++◌}
-use mathlib.Core.Option.{Option, none, some}
+use Rattle.std.specs.Prelude.{Option, None, Some}
 use Prim.Native.Nat.{ℕ, zero, suc, ◌+◌, ◌-◌, ◌/◌, ◌%◌, ◌≤◌, ◌<◌}
 use native.Mathlib.Omega.{arith}
 use borrow.Author.Tests.{eqb-true, eqb-false, leb-true, eq-eqb, ne_eqb}
@@ -96,13 +96,13 @@ first_line_lem (c ∷ x) l ls e = go (eqb c 10) refl (lines_of x) refl (λ m ms 
 -- ---- digits
 
 is_some : ℕ → Option ℕ → Bool
-is_some n none = false
-is_some n (some m) = eqb m n
+is_some n None = false
+is_some n (Some m) = eqb m n
 
-is_some_lem : (n : ℕ) (o : Option ℕ) → T (is_some n o) → o ≡ some n
+is_some_lem : (n : ℕ) (o : Option ℕ) → T (is_some n o) → o ≡ Some n
 unfolding is_some
-is_some_lem n none h = absurd h
-is_some_lem n (some m) h = ap some (eqb→eq m n h)
+is_some_lem n None h = absurd h
+is_some_lem n (Some m) h = ap Some (eqb→eq m n h)
 
 reads_back : ℕ → ℕ → Bool
 reads_back i d = is_some i (value_of (digit_of i))
@@ -110,7 +110,7 @@ reads_back i d = is_some i (value_of (digit_of i))
 sixteen : List ℕ
 sixteen = 0 ∷ 1 ∷ 2 ∷ 3 ∷ 4 ∷ 5 ∷ 6 ∷ 7 ∷ 8 ∷ 9 ∷ 10 ∷ 11 ∷ 12 ∷ 13 ∷ 14 ∷ 15 ∷ []
 
-pub digit_value : (d : ℕ) → d < 16 → value_of (digit_of d) ≡ some d
+pub digit_value : (d : ℕ) → d < 16 → value_of (digit_of d) ≡ Some d
 unfolding reads_back is_some sixteen every value_of digit_of
 digit_value d h = is_some_lem d (value_of (digit_of d)) (entry reads_back sixteen tt d h)
 
@@ -126,12 +126,12 @@ both_true : (s t : Bool) → (s && t) ≡ true → (s ≡ true) × (t ≡ true)
 both_true true t e = (refl, e)
 both_true false t e = let z : ◌≡◌ {A = ℕ} 0 1 = cc in absurd (omega arith)
 
-pub value_small : (c v : ℕ) → value_of c ≡ some v → v < 16
+pub value_small : (c v : ℕ) → value_of c ≡ Some v → v < 16
 unfolding value_of
 value_small c v e = go (leb 48 c && leb c 57) refl (leb 65 c && leb c 70) refl (leb 97 c && leb c 102) refl e
   where
     go : (r : Bool) → (leb 48 c && leb c 57) ≡ r → (s : Bool) → (leb 65 c && leb c 70) ≡ s → (t : Bool) → (leb 97 c && leb c 102) ≡ t
-        → cond r (some (c - 48)) (cond s (some (c - 55)) (cond t (some (c - 87)) none)) ≡ some v → v < 16
+        → cond r (Some (c - 48)) (cond s (Some (c - 55)) (cond t (Some (c - 87)) None)) ≡ Some v → v < 16
     go true f s g t h e = let z : c - 48 ≡ v = cc in omega (arith, leb-true c 57 (both_true (leb 48 c) (leb c 57) f).1)
     go false f true g t h e = let z : c - 55 ≡ v = cc in omega (arith, leb-true c 70 (both_true (leb 65 c) (leb c 70) g).1)
     go false f false g true h e = let z : c - 87 ≡ v = cc in omega (arith, leb-true c 102 (both_true (leb 97 c) (leb c 102) h).1)
@@ -148,13 +148,13 @@ pub line_no_feed : (a t : ℕ) (bs : List ℕ) → NoFeed (record_line a t bs)
 unfolding record_line
 line_no_feed a t bs = (λ e. omega arith, pairs_no_feed (record_bytes a t bs ++ (sum_byte (record_bytes a t bs) ∷ [])))
 
-pub pairs_back : (bs : List ℕ) → Small bs → bytes_in (pairs_of bs) ≡ some bs
+pub pairs_back : (bs : List ℕ) → Small bs → bytes_in (pairs_of bs) ≡ Some bs
 unfolding pairs_of bytes_in
 pairs_back [] s = refl
 pairs_back (b ∷ bs) s =
     let h : b < 256 = s.0 in
     rw (digit_value (b / 16) (omega arith), digit_value (b % 16) (omega arith), pairs_back bs s.1)
-    (ap (λ (n : ℕ). some (n ∷ bs)) (omega arith))
+    (ap (λ (n : ℕ). Some (n ∷ bs)) (omega arith))
 
 -- ---- a line that was written
 

@@ -2,7 +2,7 @@
 use mathlib.Core.Path.{◌≡◌, refl, sym, ap, ◌∙◌}
 use mathlib.Core.Bool.{true, false}
 use mathlib.Core.List.{List, [], ◌∷◌, ◌++◌, append_assoc, append-nil}
-use mathlib.Core.Option.{Option, some}
+use Rattle.std.specs.Prelude.{Option, Some}
 use Prim.Native.Nat.{ℕ, zero, suc, ◌+◌, ◌-◌, ◌*◌, ◌/◌, ◌%◌, ◌≤◌, ◌<◌}
 use native.Mathlib.Omega.{arith}
 use borrow.Author.Tests.{eq-eqb, le-ltb}
@@ -25,18 +25,18 @@ abbrev from : ℕ → Place → List ℕ → Outcome
 from room p t = read_lines room p (lines_of t)
 
 -- a line that was written, and what stands behind it
-line_read : (room : ℕ) (p : Place) (a t : ℕ) (bs : List ℕ) (r : Record) (k : List ℕ) → Fits a t bs → record_of_lem t a bs ≡ some r
-    → line_verdict room p (some r) ≡ fine
-    → from room p (record_line a t bs ++ (10 ∷ k)) ≡ from room (after p (some r)) k
+line_read : (room : ℕ) (p : Place) (a t : ℕ) (bs : List ℕ) (r : Record) (k : List ℕ) → Fits a t bs → record_of_lem t a bs ≡ Some r
+    → line_verdict room p (Some r) ≡ fine
+    → from room p (record_line a t bs ++ (10 ∷ k)) ≡ from room (after p (Some r)) k
 unfolding read_lines
 line_read room p a t bs r k f e v =
     ap (read_lines room p) (lines_one (record_line a t bs) k (line_no_feed a t bs))
     ∙ ap (λ (o : Option Record). unless_refused (line_verdict room p o) p.bytes (read_lines room (after p o) (lines_of k))) (record_back a t bs f ∙ e)
-    ∙ ap (λ (w : Verdict). unless_refused w p.bytes (read_lines room (after p (some r)) (lines_of k))) v
+    ∙ ap (λ (w : Verdict). unless_refused w p.bytes (read_lines room (after p (Some r)) (lines_of k))) v
 
 -- ---- the three kinds of lines
 
-as_data_lem : (a : ℕ) (bs : List ℕ) → 0 < length bs → record_of_lem data_type a bs ≡ some (data_record a bs)
+as_data_lem : (a : ℕ) (bs : List ℕ) → 0 < length bs → record_of_lem data_type a bs ≡ Some (data_record a bs)
 unfolding record_of_lem
 as_data_lem a [] h = absurd (omega arith)
 as_data_lem a (b ∷ bs) h = refl
@@ -58,7 +58,7 @@ data_read room n u y bs k e m h l r s =
     roomy : ltb room (length y + length bs) ≡ false
     roomy = le-ltb room (length y + length bs) r
 
-as_upper_lem : (high low : ℕ) → record_of_lem upper_type 0 (high ∷ low ∷ []) ≡ some (upper_record (256 * high + low))
+as_upper_lem : (high low : ℕ) → record_of_lem upper_type 0 (high ∷ low ∷ []) ≡ Some (upper_record (256 * high + low))
 unfolding record_of_lem
 as_upper_lem high low = refl
 
@@ -79,7 +79,7 @@ upper_read room n u a y k e l = go (upper_or_not a)
     )
     go (no q) = (n, rw (text_no_upper a (λ h z. q (h, z))) (ap (λ (v : ℕ). from room (place n y v) k) (e ∙ between a q)))
 
-as_end_lem : record_of_lem end_type 0 [] ≡ some end_record
+as_end_lem : record_of_lem end_type 0 [] ≡ Some end_record
 unfolding record_of_lem
 as_end_lem = refl
 

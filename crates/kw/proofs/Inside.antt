@@ -2,7 +2,7 @@
 use mathlib.Core.Path.{◌≡◌, refl, sym, ap, ◌∙◌, subst}
 use mathlib.Core.Bool.{Bool, true, false, cond}
 use mathlib.Core.List.{List, [], ◌∷◌}
-use mathlib.Core.Option.{Option, none, some}
+use Rattle.std.specs.Prelude.{Option, None, Some}
 use Prim.Native.Nat.{ℕ, zero, suc}
 use native.Mathlib.Omega.{arith}
 use lib.ListN.{length, get_or}
@@ -27,27 +27,27 @@ accepted_fine x h e = go (parse_verdict x) e
 
 -- ---- an entry that is found stands in the directory
 
-nth_there : (es : List Entry) (i : ℕ) (e : Entry) → nth i es ≡ some e → In e es
+nth_there : (es : List Entry) (i : ℕ) (e : Entry) → nth i es ≡ Some e → In e es
 unfolding nth
 nth_there [] i e h = let z : ◌≡◌ {A = ℕ} 0 1 = cc in absurd (omega arith)
 nth_there (f ∷ es) zero e h = let s : e ≡ f = cc in now s
 nth_there (f ∷ es) (suc i) e h = next (nth_there es i e h)
 
-first_there : (t : Entry → Bool) (es : List Entry) (e : Entry) → first_that t es ≡ some e → In e es
+first_there : (t : Entry → Bool) (es : List Entry) (e : Entry) → first_that t es ≡ Some e → In e es
 unfolding first_that
 first_there t [] e h = let z : ◌≡◌ {A = ℕ} 0 1 = cc in absurd (omega arith)
 first_there t (f ∷ es) e h = go (λ g. first_there t es e g) (t f) h
   where
-    go : (first_that t es ≡ some e → In e es) → (b : Bool) → cond b (some f) (first_that t es) ≡ some e → In e (f ∷ es)
+    go : (first_that t es ≡ Some e → In e es) → (b : Bool) → cond b (Some f) (first_that t es) ≡ Some e → In e (f ∷ es)
     go r true g = let s : e ≡ f = cc in now s
     go r false g = next (r g)
 
 module _ (x : List ℕ) (f : parse_verdict x ≡ fine) where
-  region_there : (k : ℕ) (e : Entry) → find_region (count x) x k ≡ some e → In e (directory x)
+  region_there : (k : ℕ) (e : Entry) → find_region (count x) x k ≡ Some e → In e (directory x)
   unfolding find_region
   region_there k e q = first_there (of_kind k) (directory x) e (ap (first_that (of_kind k)) (sym (entries_for_is x f)) ∙ q)
 
-  entry_there : (i : ℕ) (e : Entry) → region_at (count x) x i ≡ some e → In e (directory x)
+  entry_there : (i : ℕ) (e : Entry) → region_at (count x) x i ≡ Some e → In e (directory x)
   unfolding region_at
   entry_there i e q = nth_there (directory x) i e (ap (nth i) (sym (entries_for_is x f)) ∙ q)
 
@@ -64,8 +64,8 @@ pub region_inside : (x : List ℕ) (k : ℕ) → let ns = region_numbers (parse 
 region_inside x k = go (parse x) refl (find_region (count x) x k) refl
   where
     go : (p : Parsed) → parse x ≡ p → (o : Option Entry) → find_region (count x) x k ≡ o → let ns = region_numbers p o in Inside x (get_or ns 1 0) (get_or ns 2 0)
-    go (accepted h) e (some r) q = let f = accepted_fine x h e in entry_inside x f r (region_there x f k r q)
-    go (accepted h) e none q = nothing_inside x
+    go (accepted h) e (Some r) q = let f = accepted_fine x h e in entry_inside x f r (region_there x f k r q)
+    go (accepted h) e None q = nothing_inside x
     go (refused n d) e o q = nothing_inside x
 
 -- of any image and index, what kw_region_at answers
@@ -73,8 +73,8 @@ pub region_at_inside : (x : List ℕ) (i : ℕ) → let ns = region_at_numbers (
 region_at_inside x i = go (parse x) refl (region_at (count x) x i) refl
   where
     go : (p : Parsed) → parse x ≡ p → (o : Option Entry) → region_at (count x) x i ≡ o → let ns = region_at_numbers p o in Inside x (get_or ns 3 0) (get_or ns 4 0)
-    go (accepted h) e (some r) q = let f = accepted_fine x h e in entry_inside x f r (entry_there x f i r q)
-    go (accepted h) e none q = nothing_inside x
+    go (accepted h) e (Some r) q = let f = accepted_fine x h e in entry_inside x f r (entry_there x f i r q)
+    go (accepted h) e None q = nothing_inside x
     go (refused n d) e o q = nothing_inside x
 
 -- ---- the same of the functions' own contracts: a call's image and the numbers that it leaves

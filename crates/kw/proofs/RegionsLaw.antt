@@ -1,7 +1,7 @@
 -- What a lookup hands out has its entry's numbers, and no entry is found past the last. Assumes nothing.
 use mathlib.Core.Path.{◌≡◌, refl, ap, ◌∙◌}
 use mathlib.Core.List.{List}
-use mathlib.Core.Option.{Option, none, some}
+use Rattle.std.specs.Prelude.{Option, None, Some}
 use Prim.Native.Nat.{ℕ, ◌≤◌}
 use native.Mathlib.Omega.{arith}
 use Rattle.model.specs.Layout.{Entry, count}
@@ -17,17 +17,17 @@ use Rattle.view.proofs.EntriesForLaw.{length_entries_for}
 use Rattle.kw.specs.Regions.{place_numbers, region_numbers, entry_numbers, region_at_numbers, as_found}
 use Rattle.kw.proofs.Told.{told}
 
-pub none_past : (n : ℕ) (x : List ℕ) (i : ℕ) → n ≤ i → region_at n x i ≡ none
+pub none_past : (n : ℕ) (x : List ℕ) (i : ℕ) → n ≤ i → region_at n x i ≡ None
 unfolding region_at
 none_past n x i l = nth_past (entries_for n x) i (omega (arith, length_entries_for n x))
 
 found_place : (o : Option Entry) → place_numbers (as_found (found_as o)) ≡ place_numbers o
-found_place none = refl
-found_place (some e) = refl
+found_place None = refl
+found_place (Some e) = refl
 
 found_entry : (o : Option Entry) → entry_numbers (as_found (found_as o)) ≡ entry_numbers o
-found_entry none = refl
-found_entry (some e) = refl
+found_entry None = refl
+found_entry (Some e) = refl
 
 -- of an image whose parse r gave the header h
 module _ (x : List ℕ) (r : ParseResult) (e : as_parsed r ≡ parse x) (h : Header) (d : r ≡ parse-variants.Parsed h) where

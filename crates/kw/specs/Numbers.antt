@@ -1,6 +1,5 @@
 -- The model's answers as the numbers that are handed to C. (FORMAT 2, 5, 7, 8, 10)
-use Rattle.std.specs.Prelude.{Bool, ◌||◌, List, [], ◌∷◌, ◌++◌, ℕ}
-use Rattle.std.proofs.Math.Option.{Option, none, some}
+use Rattle.std.specs.Prelude.{Bool, ◌||◌, List, [], ◌∷◌, ◌++◌, ℕ, Option, None, Some}
 use Rattle.bits.specs.Bit.{num}
 use Rattle.model.specs.Parse.{Parsed, accepted, refused}
 use Rattle.model.specs.Scan.{Report}
@@ -18,8 +17,8 @@ parse_numbers (refused n d) = d ∷ 0 ∷ []
 
 -- 1 and the counts, or zeros
 abbrev pub report_numbers : Option Report → List ℕ
-report_numbers (some r) = 1 ∷ r.words ∷ r.corrected ∷ r.uncorrectable ∷ []
-report_numbers none = 0 ∷ 0 ∷ 0 ∷ 0 ∷ []
+report_numbers (Some r) = 1 ∷ r.words ∷ r.corrected ∷ r.uncorrectable ∷ []
+report_numbers None = 0 ∷ 0 ∷ 0 ∷ 0 ∷ []
 
 -- the report's numbers of an accepted image, or the refusal's detail
 abbrev pub scan_numbers : Parsed → Option Report → List ℕ

@@ -1,6 +1,5 @@
 -- What kw_region and kw_region_at give back in numbers. (FORMAT 2, 5, 6)
-use Rattle.std.specs.Prelude.{List, [], ◌∷◌, ℕ, ◌≤◌, length}
-use Rattle.std.proofs.Math.Option.{Option, none, some}
+use Rattle.std.specs.Prelude.{List, [], ◌∷◌, ℕ, ◌≤◌, length, Option, None, Some}
 use Rattle.model.specs.Layout.{Entry, start, end}
 use Rattle.model.specs.Parse.{Parsed, accepted, refused}
 use Rattle.layout.specs.Regions.{as_entry}
@@ -11,8 +10,8 @@ use Rattle.view.specs.declared.regions.RegionAt.TheVariants.{Found, Nothing}
 
 -- 1, the first byte, the byte after the last and the flags; or zeros
 abbrev pub place_numbers : Option Entry → List ℕ
-place_numbers (some e) = 1 ∷ start e ∷ end e ∷ e.flags ∷ []
-place_numbers none = 0 ∷ 0 ∷ 0 ∷ 0 ∷ []
+place_numbers (Some e) = 1 ∷ start e ∷ end e ∷ e.flags ∷ []
+place_numbers None = 0 ∷ 0 ∷ 0 ∷ 0 ∷ []
 
 -- a region's numbers in an accepted image, or the refusal's detail
 abbrev pub region_numbers : Parsed → Option Entry → List ℕ
@@ -23,8 +22,8 @@ region_numbers (refused n d) o = d ∷ 0 ∷ 0 ∷ 0 ∷ []
 
 -- 1, the kind, the flags, the first byte, the byte after the last and the kind that a plane covers; or zeros
 abbrev pub entry_numbers : Option Entry → List ℕ
-entry_numbers (some e) = 1 ∷ e.kind ∷ e.flags ∷ start e ∷ end e ∷ e.covers ∷ []
-entry_numbers none = 0 ∷ 0 ∷ 0 ∷ 0 ∷ 0 ∷ 0 ∷ []
+entry_numbers (Some e) = 1 ∷ e.kind ∷ e.flags ∷ start e ∷ end e ∷ e.covers ∷ []
+entry_numbers None = 0 ∷ 0 ∷ 0 ∷ 0 ∷ 0 ∷ 0 ∷ []
 
 -- an entry's numbers in an accepted image, or the refusal's detail
 abbrev pub region_at_numbers : Parsed → Option Entry → List ℕ
@@ -40,5 +39,5 @@ Inside x first past = (first ≤ past) × (past ≤ length x)
 
 -- a region that was handed out, as an entry: no number above depends on the reserved field
 abbrev pub as_found : RegionAt → Option Entry
-as_found (Found r) = some (as_entry r)
-as_found Nothing = none
+as_found (Found r) = Some (as_entry r)
+as_found Nothing = None

@@ -1,6 +1,5 @@
 -- The answers of the values that hold bytes, as the numbers that are handed to C.
-use Rattle.std.specs.Prelude.{cond, List, [], ◌∷◌, ◌++◌, ℕ, eqb, length}
-use Rattle.std.proofs.Math.Option.{Option}
+use Rattle.std.specs.Prelude.{cond, List, [], ◌∷◌, ◌++◌, ℕ, eqb, length, Option}
 use Rattle.bits.specs.Bit.{num}
 use Rattle.model.specs.Parity.{Outcome}
 use Rattle.model.specs.Scan.{Report}

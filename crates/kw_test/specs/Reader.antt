@@ -1,6 +1,5 @@
 -- The reader's answers as the numbers that are handed to C.
-use Rattle.std.specs.Prelude.{List, [], ◌∷◌, ℕ, length}
-use Rattle.std.proofs.Math.Option.{Option, none, some}
+use Rattle.std.specs.Prelude.{List, [], ◌∷◌, ℕ, length, Option, None, Some}
 use Rattle.bits.specs.Bit.{num}
 use Rattle.model.specs.Crc.{crc32}
 use Rattle.model.specs.Layout.{Entry}
@@ -17,8 +16,8 @@ parsed_numbers (refused n d) = n ∷ d ∷ 0 ∷ 0 ∷ []
 
 -- 1 and the entry's fields, or zeros
 abbrev pub entry_numbers : Option Entry → List ℕ
-entry_numbers (some e) = 1 ∷ e.kind ∷ e.flags ∷ e.offset ∷ e.words ∷ e.covers ∷ []
-entry_numbers none = 0 ∷ 0 ∷ 0 ∷ 0 ∷ 0 ∷ 0 ∷ []
+entry_numbers (Some e) = 1 ∷ e.kind ∷ e.flags ∷ e.offset ∷ e.words ∷ e.covers ∷ []
+entry_numbers None = 0 ∷ 0 ∷ 0 ∷ 0 ∷ 0 ∷ 0 ∷ []
 
 -- 1 and the fields of the region that a lookup hands out, or zeros
 abbrev pub found_numbers : RegionAt → List ℕ
@@ -36,8 +35,8 @@ entry_at offset words = entry_with 0 0 offset words 0
 
 -- 1, start and end, or zeros
 abbrev pub place_numbers : Option Range → List ℕ
-place_numbers (some r) = 1 ∷ r.first ∷ r.past ∷ []
-place_numbers none = 0 ∷ 0 ∷ 0 ∷ []
+place_numbers (Some r) = 1 ∷ r.first ∷ r.past ∷ []
+place_numbers None = 0 ∷ 0 ∷ 0 ∷ []
 
 -- 0, start and end; or a refusal's number and detail
 abbrev pub span_numbers : Span → List ℕ
@@ -50,5 +49,5 @@ part_numbers x = length x ∷ crc32 x ∷ []
 
 -- 1 and the counts, or zeros
 abbrev pub scan_answer : Option Report → List ℕ
-scan_answer (some r) = 1 ∷ r.words ∷ r.corrected ∷ r.uncorrectable ∷ []
-scan_answer none = 0 ∷ 0 ∷ 0 ∷ 0 ∷ []
+scan_answer (Some r) = 1 ∷ r.words ∷ r.corrected ∷ r.uncorrectable ∷ []
+scan_answer None = 0 ∷ 0 ∷ 0 ∷ 0 ∷ []

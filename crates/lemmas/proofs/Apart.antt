@@ -3,7 +3,7 @@ use mathlib.Core.Path.{◌≡◌, refl, sym, ap, ◌∙◌, subst}
 use mathlib.Core.Bool.{Bool, true, false, not, ◌&&◌, ◌||◌, cond}
 use mathlib.Core.List.{List, [], ◌∷◌, ◌++◌}
 use mathlib.Core.Logic.{◌⊎◌, inl, inr}
-use mathlib.Core.Option.{Option, none, some}
+use Rattle.std.specs.Prelude.{Option, None, Some}
 use Prim.Native.Nat.{ℕ, zero, suc, ◌+◌, ◌*◌, ◌/◌, ◌≤◌, ◌<◌, min}
 use native.Mathlib.Omega.{arith}
 use borrow.Author.Tests.{ltb-false, lt-ltb}
@@ -96,8 +96,8 @@ unfolding codewords_in words_of
 origin len all e n m = go (plane_of len all e) refl m
   where
     go : {q c : ℕ} (r : Option Entry) → plane_of len all e ≡ r → Among q c (codewords_in (visit_with e r)) → Origin all e q c
-    go none h i = elim i [ ]
-    go (some p) h i =
+    go None h i = elim i [ ]
+    go (Some p) h i =
         let s = among_from (min e.words (8 * p.words)) e.offset (8 * p.offset) (subst (Among _ _) (codewords_one (record { region = e; plane = p })) i) in
         record {
           no_plane = n;
@@ -230,8 +230,8 @@ module _ (len n : ℕ) (all : List Entry) (ok : EntriesOK len all) (apart : Laid
       go : (t : Bool) → is_plane e.flags ≡ t → (u : Bool) (r : Option Entry) → plane_of len all e ≡ r → AllApart len (codewords_in (cond (not t && u) (visit_with e r) []))
       go true h u r g = AllApart.nil
       go false h false r g = AllApart.nil
-      go false h true none g = AllApart.nil
-      go false h true (some p) g =
+      go false h true None g = AllApart.nil
+      go false h true (Some p) g =
           subst (AllApart len) (sym (codewords_one (record { region = e; plane = p })))
           (run_apart e p m h (found_plane len all e p g) (min e.words (8 * p.words)) e.offset (8 * p.offset) 0 (omega arith) (omega arith)
           (omega arith) (omega arith))

@@ -2,7 +2,7 @@
 use mathlib.Core.Path.{◌≡◌, refl, sym, ap, ◌∙◌}
 use mathlib.Core.Bool.{Bool, true, false, ◌||◌, cond, or-true, or-false}
 use mathlib.Core.List.{List, [], ◌∷◌, ◌++◌}
-use mathlib.Core.Option.{Option, none, some}
+use Rattle.std.specs.Prelude.{Option, None, Some}
 use Prim.Native.Nat.{ℕ, suc}
 use Rattle.model.specs.Refusals.{Verdict, fine, refuse, ◌then◌, refuse_if, overlapping_regions}
 use Rattle.model.specs.Layout.{Entry, count, directory}
@@ -27,13 +27,13 @@ met_last : (j : ℕ) (e : Entry) (fs : List Entry) (g : Entry) → is_some (meet
 unfolding meets_from
 met_last j e [] g = one (meets e g) ∙ sym (or-false (meets e g))
   where
-    one : (t : Bool) → is_some (cond t (some j) none) ≡ t
+    one : (t : Bool) → is_some (cond t (Some j) None) ≡ t
     one true = refl
     one false = refl
 met_last j e (f ∷ fs) g = go (meets e f) (met_last (suc j) e fs g)
   where
     go : (t : Bool) → is_some (meets_from (suc j) e (fs ++ (g ∷ []))) ≡ meets e g || is_some (meets_from (suc j) e fs)
-        → is_some (cond t (some j) (meets_from (suc j) e (fs ++ (g ∷ [])))) ≡ meets e g || is_some (cond t (some j) (meets_from (suc j) e fs))
+        → is_some (cond t (Some j) (meets_from (suc j) e (fs ++ (g ∷ [])))) ≡ meets e g || is_some (cond t (Some j) (meets_from (suc j) e fs))
     go true r = sym (or-true (meets e g))
     go false r = r
 
@@ -59,8 +59,8 @@ verdict_from h i earlier nearest (e ∷ es) s =
         → placement_verdict (placement_as t o i (placement_from h (suc i) (earlier ++ (e ∷ [])) es))
         ≡ (refuse_if (t || u) overlapping_regions i then apart_verdict h.regions (suc i) (e ∷ nearest) es)
     go true o u q r = refl
-    go false (some j) u q r = ap (λ (z : Bool). refuse_if z overlapping_regions i then apart_verdict h.regions (suc i) (e ∷ nearest) es) q
-    go false none u q r = r ∙ ap (λ (z : Bool). refuse_if z overlapping_regions i then apart_verdict h.regions (suc i) (e ∷ nearest) es) q
+    go false (Some j) u q r = ap (λ (z : Bool). refuse_if z overlapping_regions i then apart_verdict h.regions (suc i) (e ∷ nearest) es) q
+    go false None u q r = r ∙ ap (λ (z : Bool). refuse_if z overlapping_regions i then apart_verdict h.regions (suc i) (e ∷ nearest) es) q
 
 pub verdict_all : (x : List ℕ) → placement_verdict (placement_from (header_of x) 0 [] (directory x)) ≡ apart_verdict (count x) 0 [] (directory x)
 unfolding header_of meets_from meets_any_lem

@@ -2,7 +2,7 @@
 use mathlib.Core.Path.{◌≡◌, refl, sym, ap, ap₂, ◌∙◌}
 use mathlib.Core.Bool.{Bool, true, false, cond}
 use mathlib.Core.List.{List, [], ◌∷◌}
-use mathlib.Core.Option.{Option, none, some}
+use Rattle.std.specs.Prelude.{Option, None, Some}
 use Prim.Native.Nat.{ℕ, suc, ◌-◌, ◌/◌, ◌^◌, ◌<◌, zero-le, suc-le-suc}
 use native.Mathlib.Omega.{arith}
 use borrow.Author.Tests.{ltb-true}
@@ -72,8 +72,8 @@ flipped_column s i h = go (eqb s 0) (is_odd_lem s) (find s columns) refl h
     go : (z o : Bool) (m : Option ℕ) → find s columns ≡ m → cond z clean (cond o (flipped_at m) uncorrectable) ≡ flipped i → Column s i
     go true o m e g = let z : ◌≡◌ {A = ℕ} 0 1 = cc in absurd (omega arith)
     go false false m e g = let z : ◌≡◌ {A = ℕ} 0 1 = cc in absurd (omega arith)
-    go false true none e g = let z : ◌≡◌ {A = ℕ} 0 1 = cc in absurd (omega arith)
-    go false true (some k) e g = let f : k ≡ i = cc in let r = column_found s i (e ∙ ap some f) in record { inside = r.0; is = r.1 }
+    go false true None e g = let z : ◌≡◌ {A = ℕ} 0 1 = cc in absurd (omega arith)
+    go false true (Some k) e g = let f : k ≡ i = cc in let r = column_found s i (e ∙ ap Some f) in record { inside = r.0; is = r.1 }
 
 pub check_flip_flip : (i c : ℕ) → flip_check i (flip_check i c) ≡ c
 unfolding flip_check

@@ -2,7 +2,7 @@
 use mathlib.Core.Path.{◌≡◌, refl, sym, ap, ◌∙◌, subst}
 use mathlib.Core.Bool.{Bool, true, false, ◌&&◌, cond}
 use mathlib.Core.List.{List, [], ◌∷◌, ◌++◌}
-use mathlib.Core.Option.{Option, none, some}
+use Rattle.std.specs.Prelude.{Option, None, Some}
 use Prim.Native.Nat.{ℕ, suc, ◌≤◌}
 use native.Mathlib.Omega.{arith}
 use borrow.Author.Tests.{ltb-false, le-ltb, le-leb, eqb-true, eqb-false}
@@ -83,19 +83,19 @@ pub record Plane (k : ℕ) (all : List Entry) (p : Entry) : Type 0 where
   pub plane : is_plane p.flags ≡ true
   pub covers : p.covers ≡ k
 
-first_plane : (k : ℕ) (all : List Entry) (p : Entry) → first_that (plane_for k) all ≡ some p → Plane k all p
+first_plane : (k : ℕ) (all : List Entry) (p : Entry) → first_that (plane_for k) all ≡ Some p → Plane k all p
 unfolding first_that
 first_plane k [] p h = let z : ◌≡◌ {A = ℕ} 0 1 = cc in absurd (omega arith)
 first_plane k (e ∷ es) p h = go (λ g. first_plane k es p g) (is_plane e.flags) refl (eqb e.covers k) refl h
   where
-    same : ◌≡◌ {A = Option Entry} (some e) (some p) → p ≡ e
+    same : ◌≡◌ {A = Option Entry} (Some e) (Some p) → p ≡ e
     same g = cc
 
     move : Plane k es p → Plane k (e ∷ es) p
     move r = record { there = next r.there; plane = r.plane; covers = r.covers }
 
-    go : (first_that (plane_for k) es ≡ some p → Plane k es p) → (t : Bool) → is_plane e.flags ≡ t → (u : Bool) → eqb e.covers k ≡ u
-        → cond (t && u) (some e) (first_that (plane_for k) es) ≡ some p → Plane k (e ∷ es) p
+    go : (first_that (plane_for k) es ≡ Some p → Plane k es p) → (t : Bool) → is_plane e.flags ≡ t → (u : Bool) → eqb e.covers k ≡ u
+        → cond (t && u) (Some e) (first_that (plane_for k) es) ≡ Some p → Plane k (e ∷ es) p
     go f true a true b g =
         record {
           there = now (same g);
@@ -105,16 +105,16 @@ first_plane k (e ∷ es) p h = go (λ g. first_plane k es p g) (is_plane e.flags
     go f true a false b g = move (f g)
     go f false a u b g = move (f g)
 
-pub found_plane : (len : ℕ) (all : List Entry) (e p : Entry) → plane_of len all e ≡ some p → Plane e.kind all p
+pub found_plane : (len : ℕ) (all : List Entry) (e p : Entry) → plane_of len all e ≡ Some p → Plane e.kind all p
 unfolding plane_of
 found_plane len all e p h = go (first_that (plane_for e.kind) all) refl h
   where
-    go : (m : Option Entry) → first_that (plane_for e.kind) all ≡ m → plane_within len e m ≡ some p → Plane e.kind all p
-    go none g i = let z : ◌≡◌ {A = ℕ} 0 1 = cc in absurd (omega arith)
-    go (some r) g i = within (leb (end e) len && leb (end r) len) i
+    go : (m : Option Entry) → first_that (plane_for e.kind) all ≡ m → plane_within len e m ≡ Some p → Plane e.kind all p
+    go None g i = let z : ◌≡◌ {A = ℕ} 0 1 = cc in absurd (omega arith)
+    go (Some r) g i = within (leb (end e) len && leb (end r) len) i
       where
-        within : (t : Bool) → given t r ≡ some p → Plane e.kind all p
-        within true k = let s : r ≡ p = cc in first_plane e.kind all p (g ∙ ap some s)
+        within : (t : Bool) → given t r ≡ Some p → Plane e.kind all p
+        within true k = let s : r ≡ p = cc in first_plane e.kind all p (g ∙ ap Some s)
         within false k = let z : ◌≡◌ {A = ℕ} 0 1 = cc in absurd (omega arith)
 
 -- of entries that all end inside, the plane of one is plainly the first that covers its kind
@@ -123,6 +123,6 @@ unfolding plane_of
 plane_plain len all ok e m = go (first_that (plane_for e.kind) all) refl
   where
     go : (r : Option Entry) → first_that (plane_for e.kind) all ≡ r → plane_within len e r ≡ r
-    go none g = refl
-    go (some p) g =
+    go None g = refl
+    go (Some p) g =
         rw (le-leb (end e) len (ends len ok e m), le-leb (end p) len (ends len ok p (first_plane e.kind all p g).there))

@@ -2,7 +2,7 @@
 use mathlib.Core.Path.{◌≡◌, refl, sym, ap, ◌∙◌, subst}
 use mathlib.Core.Bool.{Bool, true, false, ◌&&◌, ◌||◌}
 use mathlib.Core.List.{List, [], ◌∷◌}
-use mathlib.Core.Option.{Option, none, some}
+use Rattle.std.specs.Prelude.{Option, None, Some}
 use Prim.Native.Nat.{ℕ, suc, ◌+◌, ◌-◌, ◌*◌, ◌≤◌, ◌<◌}
 use native.Mathlib.Nat.{add-zero, zero-add, add-suc, suc-add, not-suc-le-zero}
 use native.Mathlib.Decide.{dec_lt, ℕ_discrete}
@@ -72,18 +72,18 @@ meets_any e (g ∷ fs) f (next i) m = or_true (meets e g) (meets_any_lem e fs) (
 
 -- the entries of `all` from i on are es, and those before are `earlier`
 record Walk (all : List Entry) (i : ℕ) (earlier es : List Entry) : Type 0 where
-  older : (j : ℕ) (f : Entry) → j < i → nth j all ≡ some f → In f earlier
-  stands : (f : Entry) → In f earlier → (j : ℕ) × (j < i) × (nth j all ≡ some f)
+  older : (j : ℕ) (f : Entry) → j < i → nth j all ≡ Some f → In f earlier
+  stands : (f : Entry) → In f earlier → (j : ℕ) × (j < i) × (nth j all ≡ Some f)
   rest : (k : ℕ) → nth (i + k) all ≡ nth k es
 
-pub one_entry : (e f : Entry) → ◌≡◌ {A = Option Entry} (some e) (some f) → e ≡ f
+pub one_entry : (e f : Entry) → ◌≡◌ {A = Option Entry} (Some e) (Some f) → e ≡ f
 one_entry e f h = cc
 
 walk_start : (all : List Entry) → Walk all 0 [] all
 walk_start all = record { older = λ j f h. absurd (not-suc-le-zero h); stands = λ f m. elim m [ ]; rest = λ k. ap (λ (m : ℕ). nth m all) (zero-add k) }
 
 module _ (all : List Entry) (i : ℕ) (earlier : List Entry) (e : Entry) (es : List Entry) (w : Walk all i earlier (e ∷ es)) where
-  here : nth i all ≡ some e
+  here : nth i all ≡ Some e
   unfolding nth
   here = ap (λ (k : ℕ). nth k all) (sym (add-zero i)) ∙ w.rest 0
 
@@ -96,12 +96,12 @@ module _ (all : List Entry) (i : ℕ) (earlier : List Entry) (e : Entry) (es : L
         rest = λ k. ap (λ (m : ℕ). nth m all) (suc-add i k ∙ sym (add-suc i k)) ∙ w.rest (suc k);
       }
     where
-      old : (j : ℕ) (f : Entry) → j < suc i → nth j all ≡ some f → Dec (j ≡ i) → In f (e ∷ earlier)
+      old : (j : ℕ) (f : Entry) → j < suc i → nth j all ≡ Some f → Dec (j ≡ i) → In f (e ∷ earlier)
       old j f h n (yes d) = now (one_entry f e (sym n ∙ ap (λ (m : ℕ). nth m all) d ∙ here))
       old j f h n (no d) = next (w.older j f (omega arith) n)
 
-      stood : (f : Entry) → In f (e ∷ earlier) → (j : ℕ) × (j < suc i) × (nth j all ≡ some f)
-      stood f (now p) = (i, omega arith, here ∙ ap some (sym p))
+      stood : (f : Entry) → In f (e ∷ earlier) → (j : ℕ) × (j < suc i) × (nth j all ≡ Some f)
+      stood f (now p) = (i, omega arith, here ∙ ap Some (sym p))
       stood f (next m) = let s = w.stands f m in (s.0, omega (arith, s.1), s.2)
 
   -- the test says whether entry i is misplaced
@@ -133,9 +133,9 @@ module _ (all : List Entry) (i : ℕ) (earlier : List Entry) (e : Entry) (es : L
 
 -- ---- the whole walk
 
-past_end : (n : ℕ) (all : List Entry) (i : ℕ) → nth i all ≡ none → Misplaced n all i → ⊥
-past_end n all i h (on_header e a l s) = let z : some e ≡ none = sym a ∙ h in absurd (let y : ◌≡◌ {A = ℕ} 0 1 = cc in omega arith)
-past_end n all i h (on_earlier j l e f a b p q r) = let z : some e ≡ none = sym a ∙ h in absurd (let y : ◌≡◌ {A = ℕ} 0 1 = cc in omega arith)
+past_end : (n : ℕ) (all : List Entry) (i : ℕ) → nth i all ≡ None → Misplaced n all i → ⊥
+past_end n all i h (on_header e a l s) = let z : Some e ≡ None = sym a ∙ h in absurd (let y : ◌≡◌ {A = ℕ} 0 1 = cc in omega arith)
+past_end n all i h (on_earlier j l e f a b p q r) = let z : Some e ≡ None = sym a ∙ h in absurd (let y : ◌≡◌ {A = ℕ} 0 1 = cc in omega arith)
 
 none_misplaced : (n : ℕ) (all : List Entry) (i : ℕ) (earlier es : List Entry) → Walk all i earlier es → apart_verdict n i earlier es ≡ fine
     → (j : ℕ) → i ≤ j → Misplaced n all j → ⊥
@@ -186,7 +186,7 @@ module _ (n : ℕ) (es : List Entry) where
         apart = λ i j l e g h k b p q. f j (on_earlier i l g e k h b q p);
       }
     where
-      go : (i : ℕ) (e : Entry) → nth i es ≡ some e → 0 < e.words → Dec (start e < header_length n) → header_length n ≤ start e
+      go : (i : ℕ) (e : Entry) → nth i es ≡ Some e → 0 < e.words → Dec (start e < header_length n) → header_length n ≤ start e
       go i e h l (yes s) = absurd (f i (on_header e h l s))
       go i e h l (no s) = omega arith
 

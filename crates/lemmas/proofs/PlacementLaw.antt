@@ -2,7 +2,7 @@
 use mathlib.Core.Path.{◌≡◌, refl, sym, ap, ◌∙◌, subst}
 use mathlib.Core.Bool.{Bool, true, false, cond}
 use mathlib.Core.List.{List, [], ◌∷◌, ◌++◌, append_assoc}
-use mathlib.Core.Option.{Option, none, some}
+use Rattle.std.specs.Prelude.{Option, None, Some}
 use Prim.Native.Nat.{ℕ, zero, suc, ◌+◌, ◌≤◌, ◌<◌}
 use native.Mathlib.Nat.{le_of_suc-le-suc, not-suc-le-zero}
 use native.Mathlib.Decide.{dec_lt}
@@ -25,17 +25,17 @@ use Rattle.lemmas.proofs.MisplacedLaw.{both, shared_byte, meets_byte, one_entry,
 -- entry k of fs is the first that shares a byte with e
 record FirstMet (e : Entry) (fs : List Entry) (k : ℕ) : Type 0 where
   found : Entry
-  there : nth k fs ≡ some found
+  there : nth k fs ≡ Some found
   hit : meets e found ≡ true
-  lower : (l : ℕ) → l < k → (g : Entry) → nth l fs ≡ some g → meets e g ≡ false
+  lower : (l : ℕ) → l < k → (g : Entry) → nth l fs ≡ Some g → meets e g ≡ false
 
-first_met : (j : ℕ) (e : Entry) (fs : List Entry) (m : ℕ) → meets_from j e fs ≡ some m → (k : ℕ) × (m ≡ j + k) × FirstMet e fs k
+first_met : (j : ℕ) (e : Entry) (fs : List Entry) (m : ℕ) → meets_from j e fs ≡ Some m → (k : ℕ) × (m ≡ j + k) × FirstMet e fs k
 unfolding meets_from nth
 first_met j e [] m h = absurd (let z : ◌≡◌ {A = ℕ} 0 1 = cc in omega arith)
 first_met j e (f ∷ fs) m h = go (meets e f) refl h (λ u. first_met (suc j) e fs m u)
   where
-    go : (t : Bool) → meets e f ≡ t → cond t (some j) (meets_from (suc j) e fs) ≡ some m
-        → (meets_from (suc j) e fs ≡ some m → (k : ℕ) × (m ≡ suc j + k) × FirstMet e fs k) → (k : ℕ) × (m ≡ j + k) × FirstMet e (f ∷ fs) k
+    go : (t : Bool) → meets e f ≡ t → cond t (Some j) (meets_from (suc j) e fs) ≡ Some m
+        → (meets_from (suc j) e fs ≡ Some m → (k : ℕ) × (m ≡ suc j + k) × FirstMet e fs k) → (k : ℕ) × (m ≡ j + k) × FirstMet e (f ∷ fs) k
     go true g u r =
         let q : j ≡ m = cc in
         (0, omega arith, record { found = f; there = refl; hit = g; lower = λ l h. absurd (not-suc-le-zero h) })
@@ -44,15 +44,15 @@ first_met j e (f ∷ fs) m h = go (meets e f) refl h (λ u. first_met (suc j) e 
         let q = s.1 in
         (suc s.0, omega arith, record { found = s.2.found; there = s.2.there; hit = s.2.hit; lower = λ l h a n. low s.0 s.2.lower l h a n })
       where
-        low : (k : ℕ) → ((l : ℕ) → l < k → (a : Entry) → nth l fs ≡ some a → meets e a ≡ false) → (l : ℕ) → l < suc k → (a : Entry)
-            → nth l (f ∷ fs) ≡ some a → meets e a ≡ false
+        low : (k : ℕ) → ((l : ℕ) → l < k → (a : Entry) → nth l fs ≡ Some a → meets e a ≡ false) → (l : ℕ) → l < suc k → (a : Entry)
+            → nth l (f ∷ fs) ≡ Some a → meets e a ≡ false
         low k b zero h a n = ap (meets e) (one_entry a f (sym n)) ∙ g
         low k b (suc l) h a n = b l (le_of_suc-le-suc h) a n
 
 -- ---- what it names
 
 module _ (e : Entry) where
-  nth_behind : (fs es : List Entry) → nth (length fs) (fs ++ (e ∷ es)) ≡ some e
+  nth_behind : (fs es : List Entry) → nth (length fs) (fs ++ (e ∷ es)) ≡ Some e
   unfolding nth
   nth_behind [] es = refl
   nth_behind (f ∷ fs) es = nth_behind fs es
@@ -63,7 +63,7 @@ nth_front [] es k h = absurd (not-suc-le-zero h)
 nth_front (f ∷ fs) es zero h = refl
 nth_front (f ∷ fs) es (suc k) h = nth_front fs es k (le_of_suc-le-suc h)
 
-nth_within : (fs : List Entry) (k : ℕ) (f : Entry) → nth k fs ≡ some f → k < length fs
+nth_within : (fs : List Entry) (k : ℕ) (f : Entry) → nth k fs ≡ Some f → k < length fs
 unfolding nth
 nth_within [] k f h = absurd (let z : ◌≡◌ {A = ℕ} 0 1 = cc in omega arith)
 nth_within (g ∷ fs) zero f h = omega arith
@@ -88,7 +88,7 @@ module _ (h : Header) (e : Entry) (earlier es : List Entry) where
         inside = ltb-true (start e) (header_length h.regions) s.1;
       }
 
-  on_region : (j : ℕ) → in_header h.regions e ≡ false → meets_from 0 e earlier ≡ some j → OnRegion h.regions (earlier ++ (e ∷ es)) (length earlier) j
+  on_region : (j : ℕ) → in_header h.regions e ≡ false → meets_from 0 e earlier ≡ Some j → OnRegion h.regions (earlier ++ (e ∷ es)) (length earlier) j
   unfolding in_header
   on_region j t o = go (first_met 0 e earlier j o)
     where
@@ -132,8 +132,8 @@ named_from h earlier (e ∷ es) =
         → Named h (earlier ++ (e ∷ es)) (placement_from h (suc (length earlier)) (earlier ++ (e ∷ [])) es)
         → Named h (earlier ++ (e ∷ es)) (placement_as t o (length earlier) (placement_from h (suc (length earlier)) (earlier ++ (e ∷ [])) es))
     go true o p q r = on_header_lem h e earlier es p
-    go false (some j) p q r = on_region h e earlier es j p q
-    go false none p q r = r
+    go false (Some j) p q r = on_region h e earlier es j p q
+    go false None p q r = r
 
 -- the entry that is named is the first that is misplaced
 pub placement_named : (x : List ℕ) → TrueOf x (placement x)

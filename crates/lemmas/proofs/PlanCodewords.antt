@@ -3,7 +3,7 @@ use mathlib.Core.Path.{◌≡◌, refl, sym, ap, ap₂, ◌∙◌, subst}
 use mathlib.Core.Bool.{Bool, true, false, not, ◌&&◌, cond}
 use mathlib.Core.List.{List, [], ◌∷◌, ◌++◌, append-nil}
 use mathlib.Core.Logic.{◌⊎◌, inl, inr}
-use mathlib.Core.Option.{Option, some}
+use Rattle.std.specs.Prelude.{Option, Some}
 use Prim.Native.Nat.{ℕ, zero, suc, ◌+◌, ◌-◌, ◌*◌, ◌/◌, ◌<◌, min}
 use native.Mathlib.Nat.{add-zero, zero-add, add_assoc, min-eq_left, le_of_suc-le-suc, not-suc-le-zero}
 use native.Mathlib.Omega.{arith}
@@ -71,7 +71,7 @@ plan_any (r ∷ rs) a b = go (plan_any rs (a + r.words) (b + 0)) (protected_row 
 -- the planes lie from word b on
 data Finds (all : List Entry) : List Row → ℕ → Type 0 where
   nil : {b : ℕ} → Finds all [] b
-  cons : {r : Row} {rs : List Row} {b : ℕ} → (protected_row r ≡ true → first_that (plane_for r.kind) all ≡ some (plane_entry b r))
+  cons : {r : Row} {rs : List Row} {b : ℕ} → (protected_row r ≡ true → first_that (plane_for r.kind) all ≡ Some (plane_entry b r))
       → Finds all rs (b + cond (protected_row r) (plane_words r) 0) → Finds all (r ∷ rs) b
 
 -- a plane of another kind in front changes nothing
@@ -83,7 +83,7 @@ finds_plane c s all h (cons {r = r} {rs = rs} f g) =
     (finds_plane c s all (or_right (eqb r.kind s.kind) (kind_among s.kind rs) h) g)
   where
     skip : {m : Option Entry} → (r.kind ≡ s.kind → ⊥) → first_that (plane_for r.kind) all ≡ m
-        → cond (eqb s.kind r.kind) (some (plane_entry c s)) (first_that (plane_for r.kind) all) ≡ m
+        → cond (eqb s.kind r.kind) (Some (plane_entry c s)) (first_that (plane_for r.kind) all) ≡ m
     skip n e = rw (ne_eqb s.kind r.kind (λ g. n (sym g))) e
 
 -- neither does an entry that is no plane

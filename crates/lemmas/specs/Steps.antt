@@ -1,6 +1,5 @@
 -- Steps of code, for private contracts; nothing that a reader must believe. Scrub, mend and the writer; each comes to the model's definition (proofs/ScrubLaw, HeaderHalf, AppendLaw). (FORMAT 8 to 10)
-use Rattle.std.specs.Prelude.{Bool, true, false, List, [], ◌∷◌, ◌++◌, ℕ, zero, suc, ◌+◌, ◌*◌, length, drop, set}
-use Rattle.std.proofs.Math.Option.{Option, none, some}
+use Rattle.std.specs.Prelude.{Bool, true, false, List, [], ◌∷◌, ◌++◌, ℕ, zero, suc, ◌+◌, ◌*◌, length, drop, set, Option, None, Some}
 use Rattle.model.specs.Bytes.{at}
 use Rattle.model.specs.Layout.{maj3, count, header_length, header}
 use Rattle.model.specs.Scan.{Codeword, codewords, class_at}
@@ -45,5 +44,5 @@ over done out = done ++ drop (length done) out
 
 -- whether a search found an entry
 abbrev pub is_some : Option ℕ → Bool
-is_some none = false
-is_some (some j) = true
+is_some None = false
+is_some (Some j) = true

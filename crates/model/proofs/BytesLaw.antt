@@ -2,7 +2,7 @@
 use mathlib.Core.Path.{◌≡◌, refl, sym, ap, ap₂, ◌∙◌, subst}
 use mathlib.Core.Bool.{true, false}
 use mathlib.Core.List.{List, ◌∷◌, ◌++◌, append_assoc}
-use mathlib.Core.Option.{none, some}
+use Rattle.std.specs.Prelude.{None, Some}
 use Prim.Native.Nat.{ℕ, zero, suc, ◌+◌, ◌-◌, ◌*◌, ◌/◌, ◌%◌, ◌^◌, ◌<◌, zero-le, suc-le-suc}
 use native.Mathlib.Nat.{add-zero, add-suc, suc-add, le_of_suc-le-suc, not-suc-le-zero, mod-lt, pow-suc, div-lt_iff_lt-mul}
 use native.Mathlib.Numerals.{towards_suc}
@@ -154,11 +154,11 @@ read_halves_8 x p = simp (towards_suc, add-zero) (omega arith)
 -- ---- a read that may be past the end
 
 module _ (k : ℕ) (x : List ℕ) (p : ℕ) where
-  pub read_in_lem : leb (p + k) (length x) ≡ true → some (read k x p) ≡ read_in k x p
+  pub read_in_lem : leb (p + k) (length x) ≡ true → Some (read k x p) ≡ read_in k x p
   unfolding read_in
   read_in_lem e = simp e
 
-  pub read_past : leb (p + k) (length x) ≡ false → none ≡ read_in k x p
+  pub read_past : leb (p + k) (length x) ≡ false → None ≡ read_in k x p
   unfolding read_in
   read_past e = simp e
 

@@ -2,7 +2,7 @@
 use mathlib.Core.Path.{◌≡◌, refl}
 use mathlib.Core.Bool.{true, false}
 use mathlib.Core.List.{List, [], ◌∷◌, ◌++◌}
-use mathlib.Core.Option.{some}
+use Rattle.std.specs.Prelude.{Some}
 use Prim.Native.Nat.{ℕ}
 use lib.Count.{ones}
 use lib.ListN.{length, set, replicate}
@@ -99,7 +99,7 @@ one_directory = refl
 one_damaged : List ℕ
 one_damaged = set (set one_image 146 7) 20 0
 
-one_mends : mend one_damaged ≡ mended one_image (some (record { words = 1; corrected = 1; uncorrectable = 0 })) 2 true
+one_mends : mend one_damaged ≡ mended one_image (Some (record { words = 1; corrected = 1; uncorrectable = 0 })) 2 true
 unfolding one_damaged one_image mending
 one_mends = refl
 
@@ -122,7 +122,7 @@ nothing_printed = refl
 
 -- scrub repairs the word, and leaves the header copy
 one_scrubs : scrub one_damaged ≡
-    record { image = set one_image 20 0; report = some (record { words = 1; corrected = 1; uncorrectable = 0 }) }
+    record { image = set one_image 20 0; report = Some (record { words = 1; corrected = 1; uncorrectable = 0 }) }
 unfolding one_damaged one_image scrubbing
 one_scrubs = refl
 
@@ -223,6 +223,6 @@ unfolding writing
 no_words_lem = plan_image (row 1 2 0 ∷ []) []
 
 -- a protected region without words is visited: a report of no words, and whole
-no_words : mend no_words_lem ≡ mended no_words_lem (some (record { words = 0; corrected = 0; uncorrectable = 0 })) 0 true
+no_words : mend no_words_lem ≡ mended no_words_lem (Some (record { words = 0; corrected = 0; uncorrectable = 0 })) 0 true
 unfolding no_words_lem mending
 no_words = refl

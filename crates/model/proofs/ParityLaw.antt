@@ -2,7 +2,7 @@
 use mathlib.Core.Path.{◌≡◌, refl, sym, ap, ap₂, ◌∙◌}
 use mathlib.Core.Bool.{Bool, true, false, cond}
 use mathlib.Core.List.{List, [], ◌∷◌}
-use mathlib.Core.Option.{Option, none, some, map}
+use Rattle.std.specs.Prelude.{Option, None, Some, option_map}
 use Prim.Native.Nat.{ℕ, zero, suc, ◌+◌, ◌-◌, ◌^◌, ◌<◌, zero-le, suc-le-suc}
 use native.Mathlib.Omega.{arith}
 use borrow.Author.Tests.{ne_eqb, eqb-true, ltb-true, ltb-false}
@@ -37,23 +37,23 @@ unfolding columns oddly is_odd_lem ones every
 column_odd i h = T_true (is_odd_lem (get_or columns i 0)) (entry oddly columns tt i h)
 
 is_at : ℕ → Option ℕ → Bool
-is_at i none = false
-is_at i (some k) = eqb k i
+is_at i None = false
+is_at i (Some k) = eqb k i
 
-is_at_lem : (i : ℕ) (o : Option ℕ) → T (is_at i o) → o ≡ some i
+is_at_lem : (i : ℕ) (o : Option ℕ) → T (is_at i o) → o ≡ Some i
 unfolding is_at
-is_at_lem i none h = absurd h
-is_at_lem i (some k) h = ap some (eqb→eq k i h)
+is_at_lem i None h = absurd h
+is_at_lem i (Some k) h = ap Some (eqb→eq k i h)
 
 itself : ℕ → ℕ → Bool
 itself i c = is_at i (find c columns)
 
-pub find_column : (i : ℕ) → i < 72 → find (get_or columns i 0) columns ≡ some i
+pub find_column : (i : ℕ) → i < 72 → find (get_or columns i 0) columns ≡ Some i
 unfolding columns itself is_at find every
 find_column i h = is_at_lem i (find (get_or columns i 0) columns) (entry itself columns tt i h)
 
 pub columns_differ : (i j : ℕ) → i < 72 → j < 72 → get_or columns i 0 ≡ get_or columns j 0 → i ≡ j
-columns_differ i j hi hj e = let z : some i ≡ some j = sym (find_column i hi) ∙ ap (λ (s : ℕ). find s columns) e ∙ find_column j hj in cc
+columns_differ i j hi hj e = let z : Some i ≡ Some j = sym (find_column i hi) ∙ ap (λ (s : ℕ). find s columns) e ∙ find_column j hj in cc
 
 unitary : ℕ → ℕ → Bool
 unitary j u = eqb (get_or columns (64 + j) 0) (2 ^ j)
@@ -68,7 +68,7 @@ unit_column j h = eqb→eq (get_or columns (64 + j) 0) (2 ^ j) (entry unitary ei
 pub column_nonzero : (i : ℕ) → i < 72 → get_or columns i 0 ≡ 0 → ⊥
 unfolding find columns
 column_nonzero i h e =
-    let n : none ≡ some i = ap (λ (x : ℕ). find x columns) (sym e) ∙ find_column i h in
+    let n : None ≡ Some i = ap (λ (x : ℕ). find x columns) (sym e) ∙ find_column i h in
     let z : ◌≡◌ {A = ℕ} 0 1 = cc in
     omega arith
 
@@ -117,24 +117,24 @@ unfolding class_of
 class_column i h =
     rw (ne_eqb (get_or columns i 0) 0 (column_nonzero i h), column_odd i h, find_column i h)
 
-pub find_none : (s : ℕ) (cs : List ℕ) → ((k : ℕ) → k < length cs → get_or cs k 0 ≡ s → ⊥) → find s cs ≡ none
+pub find_none : (s : ℕ) (cs : List ℕ) → ((k : ℕ) → k < length cs → get_or cs k 0 ≡ s → ⊥) → find s cs ≡ None
 unfolding find
 find_none s [] f = refl
 find_none s (c ∷ cs) f =
-    rw (ne_eqb c s (f 0 (suc-le-suc zero-le))) (ap (map suc) (find_none s cs (λ k h. f (suc k) (suc-le-suc h))))
+    rw (ne_eqb c s (f 0 (suc-le-suc zero-le))) (ap (option_map suc) (find_none s cs (λ k h. f (suc k) (suc-le-suc h))))
 
-find_sound : (s : ℕ) (cs : List ℕ) (i : ℕ) → find s cs ≡ some i → (i < length cs) × (get_or cs i 0 ≡ s)
+find_sound : (s : ℕ) (cs : List ℕ) (i : ℕ) → find s cs ≡ Some i → (i < length cs) × (get_or cs i 0 ≡ s)
 unfolding find
 find_sound s [] i h = let z : ◌≡◌ {A = ℕ} 0 1 = cc in absurd (omega arith)
 find_sound s (c ∷ cs) i h = go (eqb c s) refl (find s cs) (λ k g. find_sound s cs k g) h
   where
-    go : (t : Bool) → eqb c s ≡ t → (o : Option ℕ) → ((k : ℕ) → o ≡ some k → (k < length cs) × (get_or cs k 0 ≡ s))
-        → cond t (some 0) (map suc o) ≡ some i → (i < suc (length cs)) × (get_or (c ∷ cs) i 0 ≡ s)
+    go : (t : Bool) → eqb c s ≡ t → (o : Option ℕ) → ((k : ℕ) → o ≡ Some k → (k < length cs) × (get_or cs k 0 ≡ s))
+        → cond t (Some 0) (option_map suc o) ≡ Some i → (i < suc (length cs)) × (get_or (c ∷ cs) i 0 ≡ s)
     go true e o f g = let z : 0 ≡ i = cc in (omega arith, ap (λ (k : ℕ). get_or (c ∷ cs) k 0) (sym z) ∙ eqb-true c s e)
-    go false e none f g = let z : ◌≡◌ {A = ℕ} 0 1 = cc in absurd (omega arith)
-    go false e (some k) f g = let z : suc k ≡ i = cc in let r = f k refl in (omega (arith, r.0), ap (λ (k : ℕ). get_or (c ∷ cs) k 0) (sym z) ∙ r.1)
+    go false e None f g = let z : ◌≡◌ {A = ℕ} 0 1 = cc in absurd (omega arith)
+    go false e (Some k) f g = let z : suc k ≡ i = cc in let r = f k refl in (omega (arith, r.0), ap (λ (k : ℕ). get_or (c ∷ cs) k 0) (sym z) ∙ r.1)
 
-pub column_found : (s i : ℕ) → find s columns ≡ some i → (i < 72) × (get_or columns i 0 ≡ s)
+pub column_found : (s i : ℕ) → find s columns ≡ Some i → (i < 72) × (get_or columns i 0 ≡ s)
 unfolding columns
 column_found s i h = find_sound s columns i h
 

@@ -1,7 +1,7 @@
 -- A region's plane, as its place in the bytes and the region's own bounds tell. Assumes nothing.
 use mathlib.Core.Path.{◌≡◌, refl, ap}
 use mathlib.Core.Bool.{Bool, true, false, ◌&&◌}
-use mathlib.Core.Option.{Option, none, some}
+use Rattle.std.specs.Prelude.{Option, None, Some}
 use Prim.Native.Nat.{ℕ, ◌≤◌, ◌<◌}
 use native.Mathlib.Decide.{dec_lt}
 use native.Mathlib.Omega.{arith}
@@ -40,27 +40,27 @@ outside len e n d f = go (dec_lt len (end e))
 
 -- ---- the plane's place
 
-pub no_place : (len : ℕ) (e : Entry) (o : Option Entry) → none ≡ place_within len o → plane_within len e o ≡ none
-no_place len e none f = refl
-no_place len e (some p) f = out (leb (end p) len) (leb (end e) len) f
+pub no_place : (len : ℕ) (e : Entry) (o : Option Entry) → None ≡ place_within len o → plane_within len e o ≡ None
+no_place len e None f = refl
+no_place len e (Some p) f = out (leb (end p) len) (leb (end e) len) f
   where
-    out : (t s : Bool) → none ≡ given t (range (start p) (end p)) → given (s && t) p ≡ none
+    out : (t s : Bool) → None ≡ given t (range (start p) (end p)) → given (s && t) p ≡ None
     out true s g = cc
     out false true g = refl
     out false false g = refl
 
 pub record Plane (len : ℕ) (e : Entry) (o : Option Entry) (a b : ℕ) : Type 0 where
   pub plane : Entry
-  pub is : plane_within len e o ≡ some plane
+  pub is : plane_within len e o ≡ Some plane
   pub first : a ≡ start plane
   pub past : b ≡ end plane
   pub fits : end plane ≤ len
 
-pub place_of : (len : ℕ) (e : Entry) (o : Option Entry) (a b : ℕ) → end e ≤ len → some (range a b) ≡ place_within len o → Plane len e o a b
-place_of len e none a b h f = let z : ◌≡◌ {A = ℕ} 0 1 = cc in absurd (omega arith)
-place_of len e (some p) a b h f = go (leb (end p) len) refl f
+pub place_of : (len : ℕ) (e : Entry) (o : Option Entry) (a b : ℕ) → end e ≤ len → Some (range a b) ≡ place_within len o → Plane len e o a b
+place_of len e None a b h f = let z : ◌≡◌ {A = ℕ} 0 1 = cc in absurd (omega arith)
+place_of len e (Some p) a b h f = go (leb (end p) len) refl f
   where
-    go : (t : Bool) → leb (end p) len ≡ t → some (range a b) ≡ given t (range (start p) (end p)) → Plane len e (some p) a b
+    go : (t : Bool) → leb (end p) len ≡ t → Some (range a b) ≡ given t (range (start p) (end p)) → Plane len e (Some p) a b
     go true g k =
         let r : range a b ≡ range (start p) (end p) = cc in
         record {
@@ -72,6 +72,6 @@ place_of len e (some p) a b h f = go (leb (end p) len) refl f
         }
     go false g k = let z : ◌≡◌ {A = ℕ} 0 1 = cc in absurd (omega arith)
 
-pub region_outside : (len : ℕ) (e : Entry) (o : Option Entry) → len < end e → plane_within len e o ≡ none
-region_outside len e none h = refl
-region_outside len e (some p) h = rw (lt-leb (end e) len h)
+pub region_outside : (len : ℕ) (e : Entry) (o : Option Entry) → len < end e → plane_within len e o ≡ None
+region_outside len e None h = refl
+region_outside len e (Some p) h = rw (lt-leb (end e) len h)

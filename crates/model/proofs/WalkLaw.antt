@@ -2,7 +2,7 @@
 use mathlib.Core.Path.{◌≡◌, refl, sym, ap, ◌∙◌}
 use mathlib.Core.Bool.{Bool, true, false}
 use mathlib.Core.List.{List, [], ◌∷◌}
-use mathlib.Core.Option.{none, some}
+use Rattle.std.specs.Prelude.{None, Some}
 use Prim.Native.Nat.{ℕ, zero, suc, ◌+◌, ◌≤◌, ◌<◌}
 use native.Mathlib.Nat.{le_of_suc-le-suc, not-suc-le-zero}
 use native.Mathlib.Numerals.{add-one}
@@ -17,7 +17,7 @@ use Rattle.model.specs.Views.{nth, first_that}
 -- ---- entry e stands at i
 
 module _ (es : List Entry) (i : ℕ) (e : Entry) (s : drop i es ≡ e ∷ drop (i + 1) es) where
-  pub first_here : (t : Entry → Bool) → t e ≡ true → first_that t (drop i es) ≡ some e
+  pub first_here : (t : Entry → Bool) → t e ≡ true → first_that t (drop i es) ≡ Some e
   unfolding first_that
   first_here t h = rw (s, h)
 
@@ -43,7 +43,7 @@ module _ (es : List Entry) (i : ℕ) (e : Entry) (s : drop i es ≡ e ∷ drop (
 -- ---- nothing is left
 
 module _ (es : List Entry) (i : ℕ) (s : drop i es ≡ []) where
-  pub first_end : (t : Entry → Bool) → first_that t (drop i es) ≡ none
+  pub first_end : (t : Entry → Bool) → first_that t (drop i es) ≡ None
   unfolding first_that
   first_end t = rw s
 
@@ -53,31 +53,31 @@ module _ (es : List Entry) (i : ℕ) (s : drop i es ≡ []) where
 
 -- ---- entry i itself
 
-pub nth_in : (es : List Entry) (i : ℕ) (d : Entry) → i < length es → nth i es ≡ some (get_or es i d)
+pub nth_in : (es : List Entry) (i : ℕ) (d : Entry) → i < length es → nth i es ≡ Some (get_or es i d)
 unfolding nth
 nth_in [] i d h = absurd (not-suc-le-zero h)
 nth_in (e ∷ es) zero d h = refl
 nth_in (e ∷ es) (suc i) d h = nth_in es i d (le_of_suc-le-suc h)
 
-pub nth_past : (es : List Entry) (i : ℕ) → length es ≤ i → nth i es ≡ none
+pub nth_past : (es : List Entry) (i : ℕ) → length es ≤ i → nth i es ≡ None
 unfolding nth
 nth_past [] i h = refl
 nth_past (e ∷ es) zero h = absurd (not-suc-le-zero h)
 nth_past (e ∷ es) (suc i) h = nth_past es i (le_of_suc-le-suc h)
 
-pub nth_first : (es : List Entry) (i : ℕ) (f : Entry) (fs : List Entry) → drop i es ≡ f ∷ fs → nth i es ≡ some f
+pub nth_first : (es : List Entry) (i : ℕ) (f : Entry) (fs : List Entry) → drop i es ≡ f ∷ fs → nth i es ≡ Some f
 unfolding nth
 nth_first [] i f fs e = let z : [] ≡ f ∷ fs = sym (drop-nil i) ∙ e in cc
 nth_first (g ∷ es) zero f fs e = cc
 nth_first (g ∷ es) (suc i) f fs e = nth_first es i f fs e
 
-pub nth_gone : (es : List Entry) (i : ℕ) → nth i es ≡ none → drop i es ≡ []
+pub nth_gone : (es : List Entry) (i : ℕ) → nth i es ≡ None → drop i es ≡ []
 unfolding nth
 nth_gone [] i e = drop-nil i
 nth_gone (f ∷ es) zero e = cc
 nth_gone (f ∷ es) (suc i) e = nth_gone es i e
 
-pub nth_there : (es : List Entry) (i : ℕ) (f : Entry) → nth i es ≡ some f → drop i es ≡ f ∷ drop (suc i) es
+pub nth_there : (es : List Entry) (i : ℕ) (f : Entry) → nth i es ≡ Some f → drop i es ≡ f ∷ drop (suc i) es
 unfolding nth
 nth_there [] i f e = cc
 nth_there (g ∷ es) zero f e = cc

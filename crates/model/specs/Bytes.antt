@@ -1,6 +1,5 @@
 -- Bytes of an image, read and written. An image is a list of bytes; integers are little-endian; a word is 8 bytes. (FORMAT 1)
-use Rattle.std.specs.Prelude.{Bool, true, false, List, [], ◌∷◌, ◌++◌, ℕ, zero, suc, ◌+◌, ◌-◌, ◌*◌, ◌/◌, ◌%◌, ◌<◌, leb, length, get_or, take, drop}
-use Rattle.std.proofs.Math.Option.{Option, none, some}
+use Rattle.std.specs.Prelude.{Bool, true, false, List, [], ◌∷◌, ◌++◌, ℕ, zero, suc, ◌+◌, ◌-◌, ◌*◌, ◌/◌, ◌%◌, ◌<◌, leb, length, get_or, take, drop, Option, None, Some}
 
 -- byte p, 0 past the end
 abbrev pub at : List ℕ → ℕ → ℕ
@@ -12,9 +11,9 @@ read zero x p = 0
 read (suc k) x p = at x p + 256 * read k x (suc p)
 
 -- a if the test holds, else nothing
-abbrev pub given {ℓ} : {A : Type ℓ} → Bool → A → Option A
-given true a = some a
-given false a = none
+abbrev pub given : {A : Type 0} → Bool → A → Option A
+given true a = Some a
+given false a = None
 
 -- the number in the k bytes from p on; nothing where they reach past the end
 unfoldable pub read_in : ℕ → List ℕ → ℕ → Option ℕ

@@ -1,6 +1,5 @@
 -- Intel HEX: the text of a byte string, and the reading of any text. Characters are ASCII codes. (FORMAT 15)
-use Rattle.std.specs.Prelude.{Bool, true, false, not, ◌&&◌, ◌||◌, cond, List, [], ◌∷◌, ◌++◌, ℕ, zero, suc, ◌+◌, ◌-◌, ◌*◌, ◌/◌, ◌%◌, eqb, ltb, leb, length, take, drop}
-use Rattle.std.proofs.Math.Option.{Option, none, some}
+use Rattle.std.specs.Prelude.{Bool, true, false, not, ◌&&◌, ◌||◌, cond, List, [], ◌∷◌, ◌++◌, ℕ, zero, suc, ◌+◌, ◌-◌, ◌*◌, ◌/◌, ◌%◌, eqb, ltb, leb, length, take, drop, Option, None, Some}
 use Rattle.model.specs.Refusals.{too_large_lem, no_room_lem, bad_hex_line, hex_gap, Verdict, fine, refuse, ◌then◌, refuse_if}
 use Rattle.model.specs.Programs.{lines}
 
@@ -78,19 +77,19 @@ hex_write x room = record { verdict = write_verdict x room; bytes = if_fine (wri
 -- a digit's value, in either case; nothing for another character
 unfoldable pub value_of : ℕ → Option ℕ
 value_of c =
-    cond (leb 48 c && leb c 57) (some (c - 48))
-    (cond (leb 65 c && leb c 70) (some (c - 55)) (cond (leb 97 c && leb c 102) (some (c - 87)) none))
+    cond (leb 48 c && leb c 57) (Some (c - 48))
+    (cond (leb 65 c && leb c 70) (Some (c - 55)) (cond (leb 97 c && leb c 102) (Some (c - 87)) None))
 
 abbrev pub byte_before : Option ℕ → Option ℕ → Option (List ℕ) → Option (List ℕ)
-byte_before (some high) (some low) (some bs) = some ((16 * high + low) ∷ bs)
-byte_before (some high) (some low) none = none
-byte_before (some high) none bs = none
-byte_before none low bs = none
+byte_before (Some high) (Some low) (Some bs) = Some ((16 * high + low) ∷ bs)
+byte_before (Some high) (Some low) None = None
+byte_before (Some high) None bs = None
+byte_before None low bs = None
 
 -- the bytes of pairs of digits; nothing where another character stands among them, or one is left over
 unfoldable pub bytes_in : List ℕ → Option (List ℕ)
-bytes_in [] = some []
-bytes_in (c ∷ []) = none
+bytes_in [] = Some []
+bytes_in (c ∷ []) = None
 bytes_in (c ∷ (d ∷ cs)) = byte_before (value_of c) (value_of d) (bytes_in cs)
 
 pub data Record : Type 0 where
@@ -101,42 +100,42 @@ pub data Record : Type 0 where
   end_record : Record
 
 abbrev pub as_data : ℕ → List ℕ → Option Record
-as_data address [] = none
-as_data address (b ∷ bs) = some (data_record address (b ∷ bs))
+as_data address [] = None
+as_data address (b ∷ bs) = Some (data_record address (b ∷ bs))
 
 abbrev pub as_upper : List ℕ → Option Record
-as_upper (high ∷ (low ∷ [])) = some (upper_record (256 * high + low))
-as_upper (high ∷ (low ∷ (b ∷ bs))) = none
-as_upper (high ∷ []) = none
-as_upper [] = none
+as_upper (high ∷ (low ∷ [])) = Some (upper_record (256 * high + low))
+as_upper (high ∷ (low ∷ (b ∷ bs))) = None
+as_upper (high ∷ []) = None
+as_upper [] = None
 
 abbrev pub as_end : List ℕ → Option Record
-as_end [] = some end_record
-as_end (b ∷ bs) = none
+as_end [] = Some end_record
+as_end (b ∷ bs) = None
 
 -- a record of one of the three types; types 04 and 01 need address 0
 unfoldable pub record_of_lem : ℕ → ℕ → List ℕ → Option Record
 record_of_lem type address bytes =
     cond (eqb type data_type) (as_data address bytes)
-    (cond (eqb type upper_type && eqb address 0) (as_upper bytes) (cond (eqb type end_type && eqb address 0) (as_end bytes) none))
+    (cond (eqb type upper_type && eqb address 0) (as_upper bytes) (cond (eqb type end_type && eqb address 0) (as_end bytes) None))
 
 -- the record of a line's bytes: as many data bytes as it says, and a right sum
 unfoldable pub record_in : List ℕ → Option Record
 record_in (n ∷ (high ∷ (low ∷ (type ∷ bs)))) =
-    cond (eqb (length bs) (n + 1) && eqb (total (n ∷ high ∷ low ∷ type ∷ bs) % 256) 0) (record_of_lem type (256 * high + low) (take n bs)) none
-record_in (n ∷ (high ∷ (low ∷ []))) = none
-record_in (n ∷ (high ∷ [])) = none
-record_in (n ∷ []) = none
-record_in [] = none
+    cond (eqb (length bs) (n + 1) && eqb (total (n ∷ high ∷ low ∷ type ∷ bs) % 256) 0) (record_of_lem type (256 * high + low) (take n bs)) None
+record_in (n ∷ (high ∷ (low ∷ []))) = None
+record_in (n ∷ (high ∷ [])) = None
+record_in (n ∷ []) = None
+record_in [] = None
 
 abbrev pub record_among : Option (List ℕ) → Option Record
-record_among none = none
-record_among (some bs) = record_in bs
+record_among None = None
+record_among (Some bs) = record_in bs
 
 -- the record of a line; nothing for a malformed one
 unfoldable pub record_on : List ℕ → Option Record
-record_on [] = none
-record_on (c ∷ cs) = cond (eqb c 58) (record_among (bytes_in cs)) none
+record_on [] = None
+record_on (c ∷ cs) = cond (eqb c 58) (record_among (bytes_in cs)) None
 
 -- ---- reading: line by line
 
@@ -168,22 +167,22 @@ abbrev pub gap : Place → ℕ → List ℕ → Bool
 gap p address bytes = not (eqb (65536 * p.upper + address) (length p.bytes)) || ltb 65536 (address + length bytes)
 
 abbrev pub record_verdict : ℕ → Place → Option Record → Verdict
-record_verdict room p none = refuse bad_hex_line p.number
-record_verdict room p (some (data_record address bytes)) =
+record_verdict room p None = refuse bad_hex_line p.number
+record_verdict room p (Some (data_record address bytes)) =
     refuse_if (gap p address bytes) hex_gap p.number then
     refuse_if (ltb room (length p.bytes + length bytes)) no_room_lem 0
-record_verdict room p (some (upper_record u)) = fine
-record_verdict room p (some end_record) = fine
+record_verdict room p (Some (upper_record u)) = fine
+record_verdict room p (Some end_record) = fine
 
 -- text behind the end line is refused, whatever it is
 abbrev pub line_verdict : ℕ → Place → Option Record → Verdict
 line_verdict room p r = refuse_if p.ended bad_hex_line p.number then record_verdict room p r
 
 abbrev pub after : Place → Option Record → Place
-after p none = p
-after p (some (data_record address bytes)) = record { number = p.number + 1; bytes = p.bytes ++ bytes; upper = p.upper; ended = p.ended }
-after p (some (upper_record u)) = record { number = p.number + 1; bytes = p.bytes; upper = u; ended = p.ended }
-after p (some end_record) = record { number = p.number + 1; bytes = p.bytes; upper = p.upper; ended = true }
+after p None = p
+after p (Some (data_record address bytes)) = record { number = p.number + 1; bytes = p.bytes ++ bytes; upper = p.upper; ended = p.ended }
+after p (Some (upper_record u)) = record { number = p.number + 1; bytes = p.bytes; upper = u; ended = p.ended }
+after p (Some end_record) = record { number = p.number + 1; bytes = p.bytes; upper = p.upper; ended = true }
 
 -- a refusal with the bytes so far, or what comes after
 abbrev pub unless_refused : Verdict → List ℕ → Outcome → Outcome

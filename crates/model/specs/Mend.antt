@@ -1,6 +1,5 @@
 -- Laid apart, and mend: first the rules as FORMAT 10 states them, then the procedures that meet them. (FORMAT 10)
-use Rattle.std.specs.Prelude.{◌≡◌, Bool, true, false, ◌&&◌, cond, List, [], ◌∷◌, ◌++◌, ℕ, suc, ◌+◌, ◌*◌, ◌/◌, ◌≤◌, ◌<◌, eqb, ltb, length, drop, set}
-use Rattle.std.proofs.Math.Option.{Option, none, some}
+use Rattle.std.specs.Prelude.{◌≡◌, Bool, true, false, ◌&&◌, cond, List, [], ◌∷◌, ◌++◌, ℕ, suc, ◌+◌, ◌*◌, ◌/◌, ◌≤◌, ◌<◌, eqb, ltb, length, drop, set, Option, None, Some}
 use Rattle.std.proofs.lemmas.List.Edits.{sets}
 use Rattle.model.specs.Bytes.{at, word_at, le_bytes, Bytes}
 use Rattle.model.specs.Refusals.{overlapping_regions, Verdict, fine, refuse}
@@ -19,14 +18,14 @@ InRegion e b = (start e ≤ b) × (b < end e)
 -- the entries es of a directory of n entries lie apart
 pub record LaidApart (n : ℕ) (es : List Entry) : Type 0 where
   -- no non-empty region starts inside the header
-  pub behind : (i : ℕ) (e : Entry) → nth i es ≡ some e → 0 < e.words → header_length n ≤ start e
+  pub behind : (i : ℕ) (e : Entry) → nth i es ≡ Some e → 0 < e.words → header_length n ≤ start e
   -- no two non-empty regions share a byte (an empty one has none)
-  pub apart : (i j : ℕ) → i < j → (e f : Entry) → nth i es ≡ some e → nth j es ≡ some f → (b : ℕ) → InRegion e b → InRegion f b → ⊥
+  pub apart : (i j : ℕ) → i < j → (e f : Entry) → nth i es ≡ Some e → nth j es ≡ Some f → (b : ℕ) → InRegion e b → InRegion f b → ⊥
 
 -- entry i is non-empty, and starts inside the header or shares a byte with an earlier non-empty entry
 pub data Misplaced (n : ℕ) (es : List Entry) (i : ℕ) : Type 0 where
-  on_header : (e : Entry) → nth i es ≡ some e → 0 < e.words → start e < header_length n → Misplaced n es i
-  on_earlier : (j : ℕ) → j < i → (e f : Entry) → nth i es ≡ some e → nth j es ≡ some f → (b : ℕ) → InRegion e b → InRegion f b → Misplaced n es i
+  on_header : (e : Entry) → nth i es ≡ Some e → 0 < e.words → start e < header_length n → Misplaced n es i
+  on_earlier : (j : ℕ) → j < i → (e f : Entry) → nth i es ≡ Some e → nth j es ≡ Some f → (b : ℕ) → InRegion e b → InRegion f b → Misplaced n es i
 
 -- entry i is misplaced, and no earlier entry is
 pub record FirstMisplaced (n : ℕ) (es : List Entry) (i : ℕ) : Type 0 where
@@ -67,8 +66,8 @@ in_header n e = ltb 0 e.words && ltb (start e) (header_length n)
 
 -- the first of the entries, which count from j on, that shares a byte with e
 unfoldable pub meets_from : ℕ → Entry → List Entry → Option ℕ
-meets_from j e [] = none
-meets_from j e (f ∷ fs) = cond (meets e f) (some j) (meets_from (suc j) e fs)
+meets_from j e [] = None
+meets_from j e (f ∷ fs) = cond (meets e f) (Some j) (meets_from (suc j) e fs)
 
 pub data Placement : Type 0 where
   placed_apart : Header → Placement
@@ -79,8 +78,8 @@ pub data Placement : Type 0 where
 -- what is said of entry i, given whether it starts inside the header, the earlier entry that it meets, and what is said of the entries behind it
 abbrev pub placement_as : Bool → Option ℕ → ℕ → Placement → Placement
 placement_as true o i p = over_header i
-placement_as false (some j) i p = over_region i j
-placement_as false none i p = p
+placement_as false (Some j) i p = over_region i j
+placement_as false None i p = p
 
 -- what is said of the entries from entry i on; `earlier` are the entries before them, in the directory's order
 unfoldable pub placement_from : Header → ℕ → List Entry → List Entry → Placement
@@ -149,8 +148,8 @@ unfoldable pub changed : List ℕ → List ℕ → ℕ
 changed x y = length (changes x y)
 
 abbrev pub none_uncorrectable : Option Report → Bool
-none_uncorrectable none = false
-none_uncorrectable (some r) = eqb r.uncorrectable 0
+none_uncorrectable None = false
+none_uncorrectable (Some r) = eqb r.uncorrectable 0
 
 -- there is a report with no uncorrectable word
 abbrev pub whole : List ℕ → Bool

@@ -1,6 +1,5 @@
 -- The (72,64) code: columns, check byte, the class of a syndrome, what a word is decoded to. (FORMAT 7)
-use Rattle.std.specs.Prelude.{Bool, cond, List, [], ◌∷◌, ◌++◌, ℕ, suc, ◌-◌, ◌%◌, ◌^◌, eqb, ltb, take}
-use Rattle.std.proofs.Math.Option.{Option, none, some, map}
+use Rattle.std.specs.Prelude.{Bool, cond, List, [], ◌∷◌, ◌++◌, ℕ, suc, ◌-◌, ◌%◌, ◌^◌, eqb, ltb, take, Option, None, Some, option_map}
 use Rattle.std.specs.Int.Count.{ones}
 use Rattle.std.specs.Int.Bits.{bit_xor, bit_or}
 use Rattle.bits.specs.Linear.{xor_columns}
@@ -44,8 +43,8 @@ pub data Class : Type 0 where
 
 -- the place of s in a list, if it is there
 unfoldable pub find : ℕ → List ℕ → Option ℕ
-find s [] = none
-find s (c ∷ cs) = cond (eqb c s) (some 0) (map suc (find s cs))
+find s [] = None
+find s (c ∷ cs) = cond (eqb c s) (Some 0) (option_map suc (find s cs))
 
 -- an odd number of ones
 unfoldable pub is_odd_lem : ℕ → Bool
@@ -53,8 +52,8 @@ is_odd_lem s = eqb (ones s % 2) 1
 
 -- the class of a syndrome by its place among the columns
 abbrev pub flipped_at : Option ℕ → Class
-flipped_at none = uncorrectable
-flipped_at (some i) = flipped i
+flipped_at None = uncorrectable
+flipped_at (Some i) = flipped i
 
 unfoldable pub class_of : ℕ → Class
 class_of s = cond (eqb s 0) clean (cond (is_odd_lem s) (flipped_at (find s columns)) uncorrectable)

@@ -1,6 +1,5 @@
 -- What a placement says of an image, in the words of the rule. (FORMAT 10)
-use Rattle.std.specs.Prelude.{◌≡◌, List, ℕ, ◌≤◌, ◌<◌}
-use Rattle.std.proofs.Math.Option.{some}
+use Rattle.std.specs.Prelude.{◌≡◌, List, ℕ, ◌≤◌, ◌<◌, Some}
 use Rattle.model.specs.Refusals.{fine}
 use Rattle.model.specs.Layout.{count, header_length, directory, Entry, start}
 use Rattle.model.specs.Views.{nth}
@@ -12,7 +11,7 @@ use Rattle.model.specs.Mend.{InRegion, LaidApart, FirstMisplaced, Placement, pla
 -- entry i is non-empty and starts inside the header
 pub record OnHeader (n : ℕ) (es : List Entry) (i : ℕ) : Type 0 where
   pub entry : Entry
-  pub there : nth i es ≡ some entry
+  pub there : nth i es ≡ Some entry
   pub holds : 0 < entry.words
   pub inside : start entry < header_length n
 
@@ -20,12 +19,12 @@ pub record OnHeader (n : ℕ) (es : List Entry) (i : ℕ) : Type 0 where
 pub record OnRegion (n : ℕ) (es : List Entry) (i j : ℕ) : Type 0 where
   pub entry : Entry
   pub other : Entry
-  pub there : nth i es ≡ some entry
-  pub stands : nth j es ≡ some other
+  pub there : nth i es ≡ Some entry
+  pub stands : nth j es ≡ Some other
   pub behind : header_length n ≤ start entry
   pub earlier : j < i
   pub shared : (b : ℕ) × InRegion entry b × InRegion other b
-  pub lowest : (k : ℕ) → k < j → (f : Entry) → nth k es ≡ some f → (b : ℕ) → InRegion entry b → InRegion f b → ⊥
+  pub lowest : (k : ℕ) → k < j → (f : Entry) → nth k es ≡ Some f → (b : ℕ) → InRegion entry b → InRegion f b → ⊥
 
 -- ---- of an image
 

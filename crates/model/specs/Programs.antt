@@ -1,6 +1,5 @@
 -- What the programs print, as ASCII codes. (FORMAT 11)
-use Rattle.std.specs.Prelude.{Bool, true, false, ◌||◌, cond, List, [], ◌∷◌, ◌++◌, ℕ, zero, suc, ◌+◌, ◌/◌, ◌%◌, ltb, length}
-use Rattle.std.proofs.Math.Option.{Option, none, some}
+use Rattle.std.specs.Prelude.{Bool, true, false, ◌||◌, cond, List, [], ◌∷◌, ◌++◌, ℕ, zero, suc, ◌+◌, ◌/◌, ◌%◌, ltb, length, Option, None, Some}
 use Prim.Native.Char.{code}
 use Prim.Native.String.{String, [] as empty, ◌∷◌ as ◌before◌}
 use Rattle.model.specs.Parse.{Parsed, accepted, refused, parse}
@@ -43,8 +42,8 @@ unfoldable pub regions_line : ℕ → Bool → List ℕ
 regions_line n scrub = field "regions " n ++ text (wanted scrub)
 
 unfoldable pub ecc_line : Option Report → List ℕ
-ecc_line none = text "ecc none"
-ecc_line (some r) = field "ecc " r.words ++ (field " " r.corrected ++ field " " r.uncorrectable)
+ecc_line None = text "ecc none"
+ecc_line (Some r) = field "ecc " r.words ++ (field " " r.corrected ++ field " " r.uncorrectable)
 
 unfoldable pub stored_line : ℕ → List ℕ
 stored_line n = field "stored " n
@@ -86,17 +85,17 @@ report_text x = lines (report_lines (look 65536 x))
 
 -- mend's answer, and none for an image that is too long
 unfoldable pub mend_within : ℕ → List ℕ → Option MendAnswer
-mend_within limit x = cond (ltb limit (length x)) none (some (mend x))
+mend_within limit x = cond (ltb limit (length x)) None (Some (mend x))
 
 abbrev pub image_out : Option MendAnswer → List ℕ
-image_out none = []
-image_out (some (refused_mend n d)) = []
-image_out (some (mended y r stored whole)) = y
+image_out None = []
+image_out (Some (refused_mend n d)) = []
+image_out (Some (mended y r stored whole)) = y
 
 abbrev pub line_of : Option MendAnswer → List ℕ
-line_of none = too_long_line
-line_of (some (refused_mend n d)) = refused_line n d
-line_of (some (mended y r stored whole)) = stored_line stored
+line_of None = too_long_line
+line_of (Some (refused_mend n d)) = refused_line n d
+line_of (Some (mended y r stored whole)) = stored_line stored
 
 unfoldable pub scrub_image : List ℕ → List ℕ
 scrub_image x = image_out (mend_within 65536 x)

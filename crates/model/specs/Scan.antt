@@ -1,6 +1,5 @@
 -- Planes, visited regions, examined words, and the scans' reports. (FORMAT 7)
-use Rattle.std.specs.Prelude.{◌≡◌, Bool, not, ◌&&◌, cond, List, [], ◌∷◌, ◌++◌, ℕ, zero, suc, ◌+◌, ◌*◌, ◌/◌, min, leb, ltb, length}
-use Rattle.std.proofs.Math.Option.{Option, none, some}
+use Rattle.std.specs.Prelude.{◌≡◌, Bool, not, ◌&&◌, cond, List, [], ◌∷◌, ◌++◌, ℕ, zero, suc, ◌+◌, ◌*◌, ◌/◌, min, leb, ltb, length, Option, None, Some}
 use Rattle.model.specs.Bytes.{at, word_at, given, tabulate}
 use Rattle.model.specs.Layout.{has_ecc, is_plane, Entry, end, directory}
 use Rattle.model.specs.Views.{entries_for, first_that, plane_for}
@@ -48,8 +47,8 @@ slice_scan data' plane = report (tabulate (slice_words data' plane) (λ w. decod
 
 -- nothing where the region or that plane ends past len bytes
 abbrev pub plane_within : ℕ → Entry → Option Entry → Option Entry
-plane_within len e none = none
-plane_within len e (some p) = given (leb (end e) len && leb (end p) len) p
+plane_within len e None = None
+plane_within len e (Some p) = given (leb (end e) len && leb (end p) len) p
 
 unfoldable pub plane_of : ℕ → List Entry → Entry → Option Entry
 plane_of len all e = plane_within len e (first_that (plane_for e.kind) all)
@@ -67,8 +66,8 @@ pub record Visit : Type 0 where
 
 -- the visit of a region with the plane that was found for it, and none without a plane
 abbrev pub visit_with : Entry → Option Entry → List Visit
-visit_with e none = []
-visit_with e (some p) = record { region = e; plane = p } ∷ []
+visit_with e None = []
+visit_with e (Some p) = record { region = e; plane = p } ∷ []
 
 -- the visit of one entry, and none where it is not protected or has no plane
 unfoldable pub visit_of : ℕ → List Entry → Entry → List Visit
@@ -122,8 +121,8 @@ classes_at x (p ∷ ps) = class_at x p ∷ classes_at x ps
 
 -- the report on every word examined; nothing where no region is visited
 unfoldable pub scan_of : List ℕ → List Visit → Option Report
-scan_of x [] = none
-scan_of x (v ∷ vs) = some (report (classes_at x (codewords_in (v ∷ vs))))
+scan_of x [] = None
+scan_of x (v ∷ vs) = Some (report (classes_at x (codewords_in (v ∷ vs))))
 
 -- the scan of an image that parses
 unfoldable pub scan : List ℕ → Option Report

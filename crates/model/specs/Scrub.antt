@@ -1,6 +1,5 @@
 -- Scrub, as the Rust has it. (FORMAT 8)
-use Rattle.std.specs.Prelude.{Bool, true, false, List, [], ◌∷◌, ℕ, zero, suc, ◌*◌, length}
-use Rattle.std.proofs.Math.Option.{Option, none, some}
+use Rattle.std.specs.Prelude.{Bool, true, false, List, [], ◌∷◌, ℕ, zero, suc, ◌*◌, length, Option, None, Some}
 use Rattle.std.proofs.lemmas.List.Edits.{sets}
 use Rattle.model.specs.Bytes.{le_bytes, given, word_at}
 use Rattle.model.specs.Refusals.{Verdict, fine, refuse}
@@ -41,8 +40,8 @@ scrub_visits (v ∷ vs) s =
 
 -- an entry, if there is one, of the directory `all` of an image of len bytes
 abbrev pub visit_at : ℕ → List Entry → Option Entry → List Visit
-visit_at len all none = []
-visit_at len all (some e) = visit_of len all e
+visit_at len all None = []
+visit_at len all (Some e) = visit_of len all e
 
 -- region i of the image as it then stands
 unfoldable pub scrub_region : ℕ → State → State
@@ -69,11 +68,11 @@ unfoldable pub scrub_from : ℕ → ℕ → State → Scrubbed
 scrub_from zero i s = record { image = s.image; report = reported s }
 scrub_from (suc n) i s =
     let r = scrub_from n (suc i) (scrub_region i s) in
-    if_parsed (parse_verdict s.image) r (record { image = s.image; report = none })
+    if_parsed (parse_verdict s.image) r (record { image = s.image; report = None })
 
 -- the region count is the first parse's
 unfoldable pub scrub : List ℕ → Scrubbed
 scrub x =
     if_parsed (parse_verdict x)
     (scrub_from (count x) 0 (record { image = x; met = []; visited = false }))
-    (record { image = x; report = none })
+    (record { image = x; report = None })

@@ -1,6 +1,5 @@
 -- What is asked of an image: entries, parts, records, pools. (FORMAT 6)
-use Rattle.std.specs.Prelude.{Bool, not, ◌&&◌, ◌||◌, cond, List, [], ◌∷◌, ℕ, zero, suc, ◌+◌, ◌*◌, ◌/◌, ◌%◌, eqb, ltb, leb, length}
-use Rattle.std.proofs.Math.Option.{Option, none, some}
+use Rattle.std.specs.Prelude.{Bool, not, ◌&&◌, ◌||◌, cond, List, [], ◌∷◌, ℕ, zero, suc, ◌+◌, ◌*◌, ◌/◌, ◌%◌, eqb, ltb, leb, length, Option, None, Some}
 use Rattle.model.specs.Bytes.{given, part}
 use Rattle.model.specs.Refusals.{region_out_of_bounds, bad_record_stride, Verdict, fine, refuse, ◌then◌, refuse_if}
 use Rattle.model.specs.Layout.{header_length, directory_of, is_plane, Entry, start, end}
@@ -12,14 +11,14 @@ unfoldable pub entries_for : ℕ → List ℕ → List Entry
 entries_for n x = cond (ltb (length x) (header_length n)) [] (directory_of n x)
 
 unfoldable pub nth : ℕ → List Entry → Option Entry
-nth i [] = none
-nth zero (e ∷ es) = some e
+nth i [] = None
+nth zero (e ∷ es) = Some e
 nth (suc i) (e ∷ es) = nth i es
 
 -- the first entry that passes a test
 unfoldable pub first_that : (Entry → Bool) → List Entry → Option Entry
-first_that t [] = none
-first_that t (e ∷ es) = cond (t e) (some e) (first_that t es)
+first_that t [] = None
+first_that t (e ∷ es) = cond (t e) (Some e) (first_that t es)
 
 abbrev pub of_kind : ℕ → Entry → Bool
 of_kind k e = eqb e.kind k
@@ -45,13 +44,13 @@ range a b = record { first = a; past = b }
 
 -- the very part of the bytes; empty where the answer is nothing
 abbrev pub part_in_lem : List ℕ → Option Range → List ℕ
-part_in_lem x none = []
-part_in_lem x (some r) = part x r.first r.past
+part_in_lem x None = []
+part_in_lem x (Some r) = part x r.first r.past
 
 -- where an entry stands, if there is one and its bytes are all there
 abbrev pub place_within : ℕ → Option Entry → Option Range
-place_within len none = none
-place_within len (some p) = given (leb (end p) len) (range (start p) (end p))
+place_within len None = None
+place_within len (Some p) = given (leb (end p) len) (range (start p) (end p))
 
 -- where the plane of a kind stands: the first plane that covers it, if its bytes are all there
 unfoldable pub ecc_for : ℕ → List ℕ → ℕ → Option Range

@@ -2,7 +2,7 @@
 use mathlib.Core.Path.{◌≡◌, refl, sym, ap, ap₂, ◌∙◌}
 use mathlib.Core.Bool.{Bool, true, false, ◌&&◌, cond}
 use mathlib.Core.List.{List, [], ◌∷◌, ◌++◌}
-use mathlib.Core.Option.{Option, none, some}
+use Rattle.std.specs.Prelude.{Option, None, Some}
 use Prim.Native.Nat.{ℕ, zero, suc, ◌+◌, ◌*◌, ◌≤◌, ◌<◌}
 use native.Mathlib.Omega.{arith}
 use borrow.Author.Tests.{lt-ltb, le-ltb}
@@ -46,7 +46,7 @@ module _ (e f : Entry) where
 
 -- ---- an entry that has no bytes, and one against the header
 
-empty_none : (j : ℕ) (e : Entry) (es : List Entry) → e.words ≡ 0 → meets_from j e es ≡ none
+empty_none : (j : ℕ) (e : Entry) (es : List Entry) → e.words ≡ 0 → meets_from j e es ≡ None
 unfolding meets_from
 empty_none j e [] h = refl
 empty_none j e (f ∷ es) h = rw (empty_left e f h) (empty_none (suc j) e es h)
@@ -84,7 +84,7 @@ pub left_start : (h : Header) (all : List Entry) → left_from h all 0 ≡ place
 unfolding left_from
 left_start h all = refl
 
-take_next : (es : List Entry) (i : ℕ) (e : Entry) → nth i es ≡ some e → take i es ++ (e ∷ []) ≡ take (suc i) es
+take_next : (es : List Entry) (i : ℕ) (e : Entry) → nth i es ≡ Some e → take i es ++ (e ∷ []) ≡ take (suc i) es
 unfolding nth
 take_next [] i e h = cc
 take_next (f ∷ es) zero e h = cc
@@ -93,22 +93,22 @@ take_next (f ∷ es) (suc i) e h = ap (λ (l : List Entry). f ∷ l) (take_next 
 same_from : (j : ℕ) (e : Entry) (es : List Entry) → meets_from j (as_entry (region_of e)) es ≡ meets_from j e es
 unfolding meets_from meets
 same_from j e [] = refl
-same_from j e (k ∷ es) = ap (cond (meets e k) (some j)) (same_from (suc j) e es)
+same_from j e (k ∷ es) = ap (cond (meets e k) (Some j)) (same_from (suc j) e es)
 
 on_header_lem : (t : Bool) (o : Option ℕ) (i : ℕ) (p : Placement) → on.Header ≡ overlap_as t o → placement_as t o i p ≡ over_header i
 on_header_lem true o i p e = refl
-on_header_lem false (some j) i p e = cc
-on_header_lem false none i p e = cc
+on_header_lem false (Some j) i p e = cc
+on_header_lem false None i p e = cc
 
 on_region : (t : Bool) (o : Option ℕ) (i j : ℕ) (p : Placement) → on.Region j ≡ overlap_as t o → placement_as t o i p ≡ over_region i j
 on_region true o i j p e = cc
-on_region false (some k) i j p e = cc
-on_region false none i j p e = cc
+on_region false (Some k) i j p e = cc
+on_region false None i j p e = cc
 
 on_nothing : (t : Bool) (o : Option ℕ) (i : ℕ) (p : Placement) → on.Nothing ≡ overlap_as t o → placement_as t o i p ≡ p
 on_nothing true o i p e = cc
-on_nothing false (some j) i p e = cc
-on_nothing false none i p e = refl
+on_nothing false (Some j) i p e = cc
+on_nothing false None i p e = refl
 
 -- at entry i of an image with a header h: r is what is found there
 module _ (h : Header) (x : List ℕ) (i : ℕ) (r : RegionAt) (f : r ≡ found_as (region_at h.regions x i)) where
@@ -117,7 +117,7 @@ module _ (h : Header) (x : List ℕ) (i : ℕ) (r : RegionAt) (f : r ≡ found_a
   left_gone g = ap (placement_from h i (take i (entries_for h.regions x))) (nth_gone (entries_for h.regions x) i (found_none (nth i (entries_for h.regions x)) (sym g ∙ f)))
 
   module _ (p : Region) (g : r ≡ is.Found p) (o : Overlap) (l : o ≡ overlap_as (in_header h.regions (as_entry p)) (meets_from 0 (as_entry p) (take i (entries_for h.regions x)))) where
-    entry : (e : Entry) × (nth i (entries_for h.regions x) ≡ some e) × (p ≡ region_of e)
+    entry : (e : Entry) × (nth i (entries_for h.regions x) ≡ Some e) × (p ≡ region_of e)
     unfolding region_at
     entry = found_some (nth i (entries_for h.regions x)) p (sym g ∙ f)
 

@@ -2,7 +2,7 @@
 use mathlib.Core.Path.{◌≡◌, refl, sym, ap, ap₂, ◌∙◌}
 use mathlib.Core.Bool.{Bool, true, false, not, ◌&&◌, ◌||◌, cond, or-true}
 use mathlib.Core.List.{List}
-use mathlib.Core.Option.{Option, none, some}
+use Rattle.std.specs.Prelude.{Option, None, Some}
 use Prim.Native.Nat.{ℕ, zero, suc, ◌+◌, ◌-◌, ◌*◌, ◌^◌, ◌≤◌, ◌<◌, max}
 use native.Mathlib.Nat.{add-zero, le-max_left, le-max_right}
 use native.Mathlib.Decide.{dec_lt, ℕ_discrete}
@@ -80,57 +80,57 @@ module _ (e : Entry) (h : 0 < e.words) (o : 0 < e.offset) (l : e.offset < 2 ^ 32
   overlaps_are es xs i high s j zero b = refl
   overlaps_are es xs i high s j (suc k) b =
       let p = s.each j (omega arith) in
-      ap₂ (λ (t : Bool) (o : Option ℕ). cond t (some j) o)
+      ap₂ (λ (t : Bool) (o : Option ℕ). cond t (Some j) o)
       (ap₂ (λ (m n : ℕ). leb e.offset m && leb n (last_word e)) p.last p.first ∙ one_touch p.entry p.small)
       (overlaps_are es xs i high s (suc j) k (omega arith))
       ∙ ap (λ (l : List Entry). meets_from j e (take (suc k) l)) (sym (nth_there es j p.entry p.there))
 
 -- an entry that starts past all of them
 past_none : (e : Entry) (es : List Entry) (xs : List ℕ) (i high : ℕ) → Spans es i xs high → high ≤ e.offset → (j k : ℕ) → j + k ≤ i
-    → none ≡ meets_from j e (take k (drop j es))
+    → None ≡ meets_from j e (take k (drop j es))
 unfolding meets_from
 past_none e es xs i high s h j zero b = refl
 past_none e es xs i high s h j (suc k) b =
     let p = s.each j (omega arith) in
     past_none e es xs i high s h (suc j) k (omega arith)
     ∙ sym (ap (λ (l : List Entry). meets_from j e (take (suc k) l)) (nth_there es j p.entry p.there)
-    ∙ ap (λ (t : Bool). cond t (some j) (meets_from (suc j) e (take k (drop (suc j) es)))) (starts_past e p.entry (omega (arith, p.below))))
+    ∙ ap (λ (t : Bool). cond t (Some j) (meets_from (suc j) e (take k (drop (suc j) es)))) (starts_past e p.entry (omega (arith, p.below))))
 
 -- what an entry lies on, that starts behind the header
 module _ (n : ℕ) (e : Entry) (es : List Entry) (xs : List ℕ) (i high : ℕ) (s : Spans es i xs high) (h : header_length n ≤ 8 * e.offset) where
   pub lies_past : high ≤ e.offset → on.Nothing ≡ overlap_as (in_header n e) (meets_from 0 e (take i es))
-  lies_past l = lies_behind n e (take i es) none h (past_none e es xs i high s l 0 i (omega arith))
+  lies_past l = lies_behind n e (take i es) None h (past_none e es xs i high s l 0 i (omega arith))
 
   pub lies_there : 0 < e.words → e.offset < 2 ^ 32 → (o : Option ℕ) → o ≡ overlaps_from e.offset (last_word e) xs 0 i
       → overlap_as false o ≡ overlap_as (in_header n e) (meets_from 0 e (take i es))
   lies_there w l o f = lies_behind n e (take i es) o h (f ∙ overlaps_are e w (omega arith) l es xs i high s 0 i (omega arith))
 
-pub is_none : (o : Option ℕ) (t : Bool) → not t ≡ true → t ≡ is_some o → none ≡ o
-is_none none t f h = refl
-is_none (some j) true f h = cc
-is_none (some j) false f h = cc
+pub is_none : (o : Option ℕ) (t : Bool) → not t ≡ true → t ≡ is_some o → None ≡ o
+is_none None t f h = refl
+is_none (Some j) true f h = cc
+is_none (Some j) false f h = cc
 
 -- ---- what is left of n entries at j
 
 module _ (a b : ℕ) (xs : List ℕ) (j n : ℕ) (l : j < n) (r : ℕ) (f : r ≡ cond (leb a (at xs (1024 + j)) && leb (at xs j) b) 1 0) where
-  opened : overlaps_from a b xs j (n - j) ≡ cond (leb a (at xs (1024 + j)) && leb (at xs j) b) (some j) (overlaps_from a b xs (j + 1) (n - (j + 1)))
+  opened : overlaps_from a b xs j (n - j) ≡ cond (leb a (at xs (1024 + j)) && leb (at xs j) b) (Some j) (overlaps_from a b xs (j + 1) (n - (j + 1)))
   unfolding overlaps_from
   opened =
       let e : n - j ≡ suc (n - (j + 1)) = omega arith in
       let d : suc j ≡ j + 1 = omega arith in
       rw (e, d)
 
-  pub lowest_here : (r ≡ 0 → ⊥) → overlaps_from a b xs j (n - j) ≡ some j
+  pub lowest_here : (r ≡ 0 → ⊥) → overlaps_from a b xs j (n - j) ≡ Some j
   lowest_here h = opened ∙ go (leb a (at xs (1024 + j)) && leb (at xs j) b) f
     where
-      go : (t : Bool) → r ≡ cond t 1 0 → cond t (some j) (overlaps_from a b xs (j + 1) (n - (j + 1))) ≡ some j
+      go : (t : Bool) → r ≡ cond t 1 0 → cond t (Some j) (overlaps_from a b xs (j + 1) (n - (j + 1))) ≡ Some j
       go true e = refl
       go false e = absurd (h e)
 
   pub lowest_next : r ≡ 0 → overlaps_from a b xs (j + 1) (n - (j + 1)) ≡ overlaps_from a b xs j (n - j)
   lowest_next h = sym (opened ∙ go (leb a (at xs (1024 + j)) && leb (at xs j) b) f)
     where
-      go : (t : Bool) → r ≡ cond t 1 0 → cond t (some j) (overlaps_from a b xs (j + 1) (n - (j + 1))) ≡ overlaps_from a b xs (j + 1) (n - (j + 1))
+      go : (t : Bool) → r ≡ cond t 1 0 → cond t (Some j) (overlaps_from a b xs (j + 1) (n - (j + 1))) ≡ overlaps_from a b xs (j + 1) (n - (j + 1))
       go true e = absurd (omega arith)
       go false e = refl
 
@@ -141,18 +141,18 @@ module _ (a b : ℕ) (xs : List ℕ) (j n : ℕ) (l : j < n) (r : ℕ) (f : r �
       ∙ go (leb a (at xs (1024 + j)) && leb (at xs j) b) (overlaps_from a b xs (j + 1) (n - (j + 1)))
       ∙ ap (λ (o : Option ℕ). not (eqb h 0) || is_some o) (sym opened)
     where
-      go : (t : Bool) (o : Option ℕ) → not (eqb (h + cond t 1 0) 0) || is_some o ≡ not (eqb h 0) || is_some (cond t (some j) o)
+      go : (t : Bool) (o : Option ℕ) → not (eqb (h + cond t 1 0) 0) || is_some o ≡ not (eqb h 0) || is_some (cond t (Some j) o)
       go true o = rw (ne_eqb (h + 1) 0 (λ z. omega arith)) (sym (or-true (not (eqb h 0))))
       go false o = rw (add-zero h)
 
-pub none_left : (a b : ℕ) (xs : List ℕ) (j n : ℕ) → n ≤ j → overlaps_from a b xs j (n - j) ≡ none
+pub none_left : (a b : ℕ) (xs : List ℕ) (j n : ℕ) → n ≤ j → overlaps_from a b xs j (n - j) ≡ None
 unfolding overlaps_from
 none_left a b xs j n h = let e : n - j ≡ 0 = omega arith in rw e
 
 -- ---- one entry more
 
 module _ (es : List Entry) (xs : List ℕ) (i : ℕ) (high : ℕ) (s : Spans es i xs high) (h : i < 1024) (n : length xs ≡ 2048) where
-  module _ (e : Entry) (t : nth i es ≡ some e) (l : e.offset < 2 ^ 32) (top : ℕ) (a : e.offset + e.words ≤ top) (b : high ≤ top) where
+  module _ (e : Entry) (t : nth i es ≡ Some e) (l : e.offset < 2 ^ 32) (top : ℕ) (a : e.offset + e.words ≤ top) (b : high ≤ top) where
     ys : List ℕ
     ys = set xs i e.offset
 

@@ -1,6 +1,5 @@
 -- The model's reading of the answers. (FORMAT 10)
-use Rattle.std.specs.Prelude.{Bool, true, false, ℕ}
-use Rattle.std.proofs.Math.Option.{Option, none, some}
+use Rattle.std.specs.Prelude.{Bool, true, false, ℕ, Option, None, Some}
 use Rattle.model.specs.Mend as model
 use Rattle.error.specs.Refused.{number_of, detail_of}
 use Rattle.view.specs.Answers.{as_header}
@@ -18,5 +17,5 @@ as_placement (is.Refused r) = model.refused_placement (number_of r) (detail_of r
 -- what an entry lies on: whether it starts inside the header, and the earlier entry that it meets
 abbrev pub overlap_as : Bool → Option ℕ → Overlap
 overlap_as true o = on.Header
-overlap_as false (some j) = on.Region j
-overlap_as false none = on.Nothing
+overlap_as false (Some j) = on.Region j
+overlap_as false None = on.Nothing

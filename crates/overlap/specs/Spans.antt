@@ -1,6 +1,5 @@
 -- Steps of code, for private contracts; nothing that a reader must believe. Entries held as their first and their last word, in 32 bits each. (FORMAT 10)
-use Rattle.std.specs.Prelude.{◌≡◌, ◌&&◌, cond, List, ℕ, zero, suc, ◌+◌, ◌-◌, ◌^◌, ◌<◌, ◌≤◌, eqb, ltb, leb}
-use Rattle.std.proofs.Math.Option.{Option, none, some}
+use Rattle.std.specs.Prelude.{◌≡◌, ◌&&◌, cond, List, ℕ, zero, suc, ◌+◌, ◌-◌, ◌^◌, ◌<◌, ◌≤◌, eqb, ltb, leb, Option, None, Some}
 use Rattle.model.specs.Bytes.{at}
 use Rattle.model.specs.Layout.{Entry}
 use Rattle.model.specs.Views.{nth}
@@ -11,12 +10,12 @@ last_word e = cond (eqb e.words 0) 0 (cond (ltb (e.offset + e.words - 1) 4294967
 
 -- the first of the k entries from j on that the words from a to b meet: xs has first words, and last words 1024 places on
 unfoldable pub overlaps_from : ℕ → ℕ → List ℕ → ℕ → ℕ → Option ℕ
-overlaps_from a b xs j zero = none
-overlaps_from a b xs j (suc k) = cond (leb a (at xs (1024 + j)) && leb (at xs j) b) (some j) (overlaps_from a b xs (suc j) k)
+overlaps_from a b xs j zero = None
+overlaps_from a b xs j (suc k) = cond (leb a (at xs (1024 + j)) && leb (at xs j) b) (Some j) (overlaps_from a b xs (suc j) k)
 
 pub record SpanOf (es : List Entry) (xs : List ℕ) (high j : ℕ) : Type 0 where
   pub entry : Entry
-  pub there : nth j es ≡ some entry
+  pub there : nth j es ≡ Some entry
   pub first : at xs j ≡ entry.offset
   pub last : at xs (1024 + j) ≡ last_word entry
   pub small : entry.offset < 2 ^ 32

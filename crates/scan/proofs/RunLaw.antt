@@ -2,7 +2,7 @@
 use mathlib.Core.Path.{◌≡◌, refl, sym, ap, ap₂, ◌∙◌, subst}
 use mathlib.Core.Bool.{Bool, true, false, ◌&&◌, cond}
 use mathlib.Core.List.{List, []}
-use mathlib.Core.Option.{Option, none, some}
+use Rattle.std.specs.Prelude.{Option, None, Some}
 use Prim.Native.Nat.{ℕ, zero, suc, ◌+◌, ◌-◌, ◌*◌, ◌^◌, ◌≤◌, ◌<◌, min}
 use native.Mathlib.Nat.{min-le_left, min-le_right}
 use native.Mathlib.Omega.{arith}
@@ -40,11 +40,11 @@ empty_run x vs q e f =
 
 -- pl is the place of the plane of r's kind, and sp r's own span
 module _ (n : ℕ) (x : List ℕ) (r : Region) (pl : Place) (sp : PartSpan) (ep : as_place pl ≡ ecc_for n x r.kind) (es : as_span sp ≡ bytes_span (length x) (as_entry r)) where
-  pub no_plane_lem : pl ≡ Nothing → plane_of (length x) (entries_for n x) (as_entry r) ≡ none
+  pub no_plane_lem : pl ≡ Nothing → plane_of (length x) (entries_for n x) (as_entry r) ≡ None
   unfolding plane_of ecc_for
   no_plane_lem f = plane-law.no_place (length x) (as_entry r) (first_that (plane_for r.kind) (entries_for n x)) (ap as_place (sym f) ∙ ep)
 
-  pub past_end : (s : Refusal) → sp ≡ Refused s → plane_of (length x) (entries_for n x) (as_entry r) ≡ none
+  pub past_end : (s : Refusal) → sp ≡ Refused s → plane_of (length x) (entries_for n x) (as_entry r) ≡ None
   unfolding plane_of
   past_end s f =
       plane-law.region_outside (length x) (as_entry r) (first_that (plane_for r.kind) (entries_for n x))
@@ -63,7 +63,7 @@ module _ (n : ℕ) (x : List ℕ) (r : Region) (pl : Place) (sp : PartSpan) (ep 
     pub ordered : a ≤ b
     ordered = let p = plane in omega (arith, p.first, p.past)
 
-    is_plane_lem : plane_of (length x) (entries_for n x) (as_entry r) ≡ some plane.plane
+    is_plane_lem : plane_of (length x) (entries_for n x) (as_entry r) ≡ Some plane.plane
     unfolding plane_of
     is_plane_lem = plane.is
 
@@ -81,7 +81,7 @@ module _ (n : ℕ) (x : List ℕ) (r : Region) (pl : Place) (sp : PartSpan) (ep 
         let p = plane in
         let g : m ≤ r.word_length = omega (arith, min-le_left r.word_length (b - a)) in
         let h : m ≤ b - a = omega (arith, min-le_right r.word_length (b - a)) in
-        let vs : visit_with (as_entry r) (plane_of (length x) (entries_for n x) (as_entry r)) ≡ visit_with (as_entry r) (some p.plane) = ap (visit_with (as_entry r)) is_plane_lem in
+        let vs : visit_with (as_entry r) (plane_of (length x) (entries_for n x) (as_entry r)) ≡ visit_with (as_entry r) (Some p.plane) = ap (visit_with (as_entry r)) is_plane_lem in
         let w : b - a ≡ 8 * p.plane.words = omega (arith, p.first, p.past) in
         record {
           is = ap₂ (λ (i j : ℕ). record { visited = true; word = r.word_offset; check = i; words = j }) p.first (e ∙ ap (min r.word_length) w) ∙ sym (ap run_of vs);
@@ -106,8 +106,8 @@ same_visit len all e = go (is_protected e) (first_that (plane_for e.kind) all)
 
     go : (t : Bool) (o : Option Entry) → Same (cond t (visit_with (as_entry (region_of e)) (plane_within len (as_entry (region_of e)) o)) []) (cond t (visit_with e (plane_within len e o)) [])
     go false o = (refl, refl, refl)
-    go true none = (refl, refl, refl)
-    go true (some p) = within (leb (end e) len && leb (end p) len) p
+    go true None = (refl, refl, refl)
+    go true (Some p) = within (leb (end e) len && leb (end p) len) p
 
 -- ---- a region that is handed out for entry i
 

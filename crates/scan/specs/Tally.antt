@@ -1,6 +1,5 @@
 -- Steps of code, for the contracts of building blocks that other crates call; no statement of the demands speaks of them. What a scan, scrub or mend has counted so far. (FORMAT 7, 8, 10)
-use Rattle.std.specs.Prelude.{Bool, false, ◌||◌, List, ℕ, ◌+◌, ◌^◌, ◌≤◌}
-use Rattle.std.proofs.Math.Option.{Option}
+use Rattle.std.specs.Prelude.{Bool, false, ◌||◌, List, ℕ, ◌+◌, ◌^◌, ◌≤◌, Option}
 use Rattle.model.specs.Bytes.{given}
 use Rattle.model.specs.Parity.{Class, Outcome, clean_word, corrected_word, uncorrectable_word}
 use Rattle.model.specs.Scan.{Report, report, Visit, codewords_in, classes_at}

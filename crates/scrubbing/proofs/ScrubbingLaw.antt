@@ -2,7 +2,7 @@
 use mathlib.Core.Path.{◌≡◌, refl, sym, ap, ap₂, ◌∙◌, subst}
 use mathlib.Core.Bool.{false}
 use mathlib.Core.List.{List, [], ◌∷◌}
-use mathlib.Core.Option.{none}
+use Rattle.std.specs.Prelude.{None}
 use Prim.Native.Nat.{ℕ, suc, ◌≤◌}
 use native.Mathlib.Omega.{arith}
 use lib.ListN.{length}
@@ -108,7 +108,7 @@ pub from_next : (m i : ℕ) (s : State) → parse_verdict s.image ≡ fine → s
 unfolding scrub_from
 from_next m i s h = rw h
 
-pub from_failed : (m i : ℕ) (s : State) (k d : ℕ) → parse_verdict s.image ≡ refuse k d → scrub_from (suc m) i s ≡ record { image = s.image; report = none }
+pub from_failed : (m i : ℕ) (s : State) (k d : ℕ) → parse_verdict s.image ≡ refuse k d → scrub_from (suc m) i s ≡ record { image = s.image; report = None }
 unfolding scrub_from
 from_failed m i s k d h = rw h
 
@@ -116,7 +116,7 @@ pub from_done : (i : ℕ) (s : State) → scrub_from 0 i s ≡ record { image = 
 unfolding scrub_from
 from_done i s = refl
 
-pub scrub_failed : (x : List ℕ) (k d : ℕ) → parse_verdict x ≡ refuse k d → scrub x ≡ record { image = x; report = none }
+pub scrub_failed : (x : List ℕ) (k d : ℕ) → parse_verdict x ≡ refuse k d → scrub x ≡ record { image = x; report = None }
 unfolding scrub
 scrub_failed x k d h = rw h
 

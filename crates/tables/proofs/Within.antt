@@ -1,7 +1,7 @@
 -- A part that is found lies within the bytes. Assumes nothing.
 use mathlib.Core.Path.{◌≡◌, refl, sym, ap, subst}
 use mathlib.Core.Bool.{Bool, true, false, not, ◌&&◌}
-use mathlib.Core.Option.{some}
+use Rattle.std.specs.Prelude.{Some}
 use Prim.Native.Nat.{ℕ, suc, ◌+◌, ◌*◌, ◌/◌, ◌%◌, ◌≤◌, ◌<◌}
 use native.Mathlib.Nat.{suc-mul, le-div_iff_mul-le}
 use native.Mathlib.Decide.{dec_le}
@@ -52,11 +52,11 @@ table_within len e stride s t f = spanned len e (table_verdict len e stride) s t
 
 -- ---- a record's, a pool's
 
-given_true : (t : Bool) (a b : Range) → some a ≡ given t b → t ≡ true
+given_true : (t : Bool) (a b : Range) → Some a ≡ given t b → t ≡ true
 given_true true a b e = refl
 given_true false a b e = cc
 
-given_same : (t : Bool) (a b : Range) → some a ≡ given t b → a ≡ b
+given_same : (t : Bool) (a b : Range) → Some a ≡ given t b → a ≡ b
 given_same true a b e = cc
 given_same false a b e = cc
 
@@ -64,7 +64,7 @@ and_right : (a b : Bool) → a && b ≡ true → b ≡ true
 and_right true b e = e
 and_right false b e = cc
 
-place_within_lem : (len a b : ℕ) (t : Bool) (s z : ℕ) → some (range s z) ≡ given t (range a b) → (t ≡ true → b ≤ len) → a ≤ b → Within len s z
+place_within_lem : (len a b : ℕ) (t : Bool) (s z : ℕ) → Some (range s z) ≡ given t (range a b) → (t ≡ true → b ≤ len) → a ≤ b → Within len s z
 place_within_lem len a b t s z e f g =
     let r = given_same t (range s z) (range a b) e in
     let es : s ≡ a = ap (λ (x : Range). x.first) r in
@@ -72,13 +72,13 @@ place_within_lem len a b t s z e f g =
     let h : b ≤ len = f (given_true t (range s z) (range a b) e) in
     (omega arith, omega arith)
 
-pub record_within : (len stride i s t : ℕ) → some (range s t) ≡ record_range len stride i → Within len s t
+pub record_within : (len stride i s t : ℕ) → Some (range s t) ≡ record_range len stride i → Within len s t
 unfolding record_range
 record_within len stride i s t e =
     place_within_lem len (i * stride) (i * stride + stride) (ltb 0 stride && leb (i * stride + stride) len) s t e
     (λ h. leb-true (i * stride + stride) len (and_right (ltb 0 stride) (leb (i * stride + stride) len) h)) (omega arith)
 
-pub pool_within : (len offset size s t : ℕ) → some (range s t) ≡ pool_range len offset size → Within len s t
+pub pool_within : (len offset size s t : ℕ) → Some (range s t) ≡ pool_range len offset size → Within len s t
 unfolding pool_range
 pool_within len offset size s t e =
     place_within_lem len offset (offset + size) (leb (offset + size) len) s t e (λ h. leb-true (offset + size) len h) (omega arith)

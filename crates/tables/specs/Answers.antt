@@ -1,5 +1,5 @@
 -- The model's reading of each answer. (FORMAT 6)
-use Rattle.std.proofs.Math.Option.{Option, none, some}
+use Rattle.std.specs.Prelude.{Option, None, Some}
 use Rattle.model.specs.Views.{Range, range, Span, span, no_span}
 use Rattle.error.specs.Refused.{number_of, detail_of}
 use Rattle.tables.specs.declared.PartSpan.{PartSpan}
@@ -12,5 +12,5 @@ as_span (Bytes start end) = span (range start end)
 as_span (Refused r) = no_span (number_of r) (detail_of r)
 
 abbrev pub as_place : Place → Option Range
-as_place (At start end) = some (range start end)
-as_place Nothing = none
+as_place (At start end) = Some (range start end)
+as_place Nothing = None

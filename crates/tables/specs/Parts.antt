@@ -1,7 +1,6 @@
 -- The very part of bytes that were lent: where it lies and what it holds. (FORMAT 6)
 -- A reference to a slice is a pointer (`ptr`: a block of memory, and an offset in it) and the bytes from there on (`now`).
-use Rattle.std.specs.Prelude.{◌≡◌, List, ℕ, ◌+◌}
-use Rattle.std.proofs.Math.Option.{Option, none, some}
+use Rattle.std.specs.Prelude.{◌≡◌, List, ℕ, ◌+◌, Option, None, Some}
 use Rattle.std.specs.Borrow.{Bor}
 use Rattle.model.specs.Views.{Range, Span, span, no_span, part_in_lem, part_of}
 
@@ -13,8 +12,8 @@ pub record PartAt (lent r : Bor (List ℕ)) (n : ℕ) (xs : List ℕ) : Type 0 w
 
 -- the offset at which the part in a range starts; the empty slice that stands for no part starts with the bytes
 abbrev pub start_in : Option Range → ℕ
-start_in none = 0
-start_in (some r) = r.first
+start_in None = 0
+start_in (Some r) = r.first
 
 -- the offset at which the part in a span starts; 0 where it is refused
 abbrev pub start_of : Span → ℕ

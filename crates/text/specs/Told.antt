@@ -1,6 +1,5 @@
 -- What the command prints of an image, and what the program scrub leaves of one. (FORMAT 11, 14)
-use Rattle.std.specs.Prelude.{Bool, cond, List, [], ◌∷◌, ◌++◌, map, ℕ, ltb, length}
-use Rattle.std.proofs.Math.Option.{Option, none, some}
+use Rattle.std.specs.Prelude.{Bool, cond, List, [], ◌∷◌, ◌++◌, map, ℕ, ltb, length, Option, None, Some}
 use Rattle.model.specs.Mend.{MendAnswer, refused_mend, mended}
 use Rattle.model.specs.Programs.{Found, too_long, refused_image, image, mend_within, report_lines, text, field, too_long_line, refused_line, regions_line, stored_line, lines}
 use Rattle.findings.specs.Answers.{left_within, uncorrectable_in}
@@ -25,9 +24,9 @@ abbrev pub uncorrectable_lines : ℕ → List (List ℕ)
 uncorrectable_lines n = cond (ltb 0 n) (uncorrectable_line n ∷ []) []
 
 abbrev pub mend_lines : Option MendAnswer → List (List ℕ)
-mend_lines none = too_long_line ∷ []
-mend_lines (some (refused_mend n d)) = refused_line n d ∷ []
-mend_lines (some (mended y r stored whole)) = stored_line stored ∷ uncorrectable_lines (uncorrectable_in r)
+mend_lines None = too_long_line ∷ []
+mend_lines (Some (refused_mend n d)) = refused_line n d ∷ []
+mend_lines (Some (mended y r stored whole)) = stored_line stored ∷ uncorrectable_lines (uncorrectable_in r)
 
 unfoldable pub mend_text : Option MendAnswer → List ℕ
 mend_text m = lines (mend_lines m)

@@ -1,6 +1,5 @@
 // One line each, from a place on, without its line feed. Each function gives the place right behind its text.
-ghost use Rattle.std.proofs.Math.Option.{some};
-ghost use Rattle.std.specs.Prelude.{ℕ, ◌+◌, ◌≤◌, length};
+ghost use Rattle.std.specs.Prelude.{Some, ℕ, ◌+◌, ◌≤◌, length};
 ghost use Rattle.put.specs.Put.{Put};
 ghost use Rattle.model.specs.Programs.{line_feed, too_long_line, refused_line, regions_line, ecc_line, stored_line};
 ghost use Rattle.text.specs.Told.{uncorrectable_line};
@@ -61,7 +60,7 @@ pub(crate) fn put_regions(out: &mut [u8], at: usize, region_count: u16, needs_sc
 
 fn put_counts(out: &mut [u8], at: usize, counts: EccReport) -> usize
     requires { at + 66 ≤ length out.old }
-    ensures is { Put out.old at (ecc_line (some (as_report counts))) result out.new }
+    ensures is { Put out.old at (ecc_line (Some (as_report counts))) result out.new }
     ensures few { result ≤ at + 66 }
 {
     let corrected = put_field(out, at, b"ecc ", counts.words as u64);

@@ -2,7 +2,7 @@
 use mathlib.Core.Path.{◌≡◌, sym, ap, ◌∙◌, subst}
 use mathlib.Core.Bool.{Bool}
 use mathlib.Core.List.{List, [], ◌∷◌}
-use mathlib.Core.Option.{Option, some}
+use Rattle.std.specs.Prelude.{Option, Some}
 use Prim.Native.Nat.{ℕ, ◌≤◌}
 use lib.ListN.{length}
 use Rattle.model.specs.Scan.{Report}
@@ -15,4 +15,4 @@ pub scrubbed : (w d : List ℕ) {n k : ℕ} {r : Option Report} {t : Bool} → D
     → (scrub_image d ≡ w) × (scrub_text d ≡ lines (stored_line k ∷ []))
 scrubbed w d {k = k} damage short e =
     let l : length d ≤ 65536 = subst (λ (m : ℕ). m ≤ 65536) (sym damage.size) short in
-    (sym (image_short d l) ∙ ap (λ (m : MendAnswer). image_out (some m)) e, sym (text_short d l) ∙ ap (λ (m : MendAnswer). lines (line_of (some m) ∷ [])) e)
+    (sym (image_short d l) ∙ ap (λ (m : MendAnswer). image_out (Some m)) e, sym (text_short d l) ∙ ap (λ (m : MendAnswer). lines (line_of (Some m) ∷ [])) e)

@@ -2,7 +2,7 @@
 use mathlib.Core.Path.{◌≡◌, refl, sym, ap, ◌∙◌, subst}
 use mathlib.Core.Bool.{true, false}
 use mathlib.Core.List.{List, [], ◌∷◌, ◌++◌}
-use mathlib.Core.Option.{some}
+use Rattle.std.specs.Prelude.{Some}
 use Prim.Native.Nat.{ℕ, ◌+◌, ◌-◌, ◌*◌, ◌≤◌, ◌<◌}
 use native.Mathlib.Nat.{add-zero, zero-add, add_assoc}
 use native.Mathlib.Omega.{arith}
@@ -42,7 +42,7 @@ other_row k (s ∷ before) r behind h e = other_row k before r behind (or_right 
 
 find_row : (a : ℕ) (before : List Row) (r : Row) (behind : List Row) (fs : List Entry) → RowsOK (before ++ (r ∷ behind))
     → first_that (of_kind r.kind) (row_entries a (before ++ (r ∷ behind)) ++ fs)
-    ≡ some (row_entry (a + row_words_lem before) r)
+    ≡ Some (row_entry (a + row_words_lem before) r)
 unfolding first_that row_entries row_words_lem
 find_row a [] r behind fs o = rw (eq-eqb r.kind r.kind refl, add-zero a)
 find_row a (s ∷ before) r behind fs o =
@@ -94,7 +94,7 @@ module _ (rs : List Row) (payload : List ℕ) (o : PlanOK rs payload) (b : Bytes
       (ap (λ (n : ℕ). directory_of n w) (sym (count_is rs payload o)) ∙ directory_back rs payload o)
 
   module _ (before : List Row) (r : Row) (behind : List Row) (e : rs ≡ before ++ (r ∷ behind)) where
-    finds : find_region (regions rs) w r.kind ≡ some (entry_of_row rs before r)
+    finds : find_region (regions rs) w r.kind ≡ Some (entry_of_row rs before r)
     unfolding find_region plan_directory
     finds =
         ap (first_that (of_kind r.kind)) entries_entries_for

@@ -2,7 +2,7 @@
 use mathlib.Core.Path.{◌≡◌, refl, sym, ap, ◌∙◌, subst}
 use mathlib.Core.Bool.{Bool, true, false, ◌&&◌, cond}
 use mathlib.Core.List.{List, [], ◌∷◌, ◌++◌}
-use mathlib.Core.Option.{Option, none, some}
+use Rattle.std.specs.Prelude.{Option, None, Some}
 use mathlib.Core.Logic.{◌⊎◌, inl, inr}
 use Prim.Native.Nat.{ℕ, zero, suc, ◌+◌, ◌*◌, ◌/◌, ◌≤◌, ◌<◌, min}
 use native.Mathlib.Decide.{ℕ_discrete}
@@ -107,7 +107,7 @@ both_left : (a b : Bool) → a && b ≡ true → a ≡ true
 both_left true b e = refl
 both_left false b e = e
 
-given_true : (t : Bool) (a b : Entry) → given t a ≡ some b → t ≡ true
+given_true : (t : Bool) (a b : Entry) → given t a ≡ Some b → t ≡ true
 given_true true a b e = refl
 given_true false a b e = absurd (let z : ◌≡◌ {A = ℕ} 0 1 = cc in omega arith)
 
@@ -116,8 +116,8 @@ unfolding visit_of plane_of
 visited_by len all e v vs h = go (is_protected e) refl (first_that (plane_for e.kind) all) h
   where
     inner : is_protected e ≡ true → (q : Entry) (r : Option Entry) → given (leb (end e) len && leb (end q) len) q ≡ r → visit_with e r ≡ v ∷ vs → Visited len e v
-    inner t q none g k = absurd (let z : ◌≡◌ {A = ℕ} 0 1 = cc in omega arith)
-    inner t q (some r) g k =
+    inner t q None g k = absurd (let z : ◌≡◌ {A = ℕ} 0 1 = cc in omega arith)
+    inner t q (Some r) g k =
         let m : record { region = e; plane = r } ≡ v = cc in
         record {
           protected = t;
@@ -126,8 +126,8 @@ visited_by len all e v vs h = go (is_protected e) refl (first_that (plane_for e.
         }
 
     go : (t : Bool) → is_protected e ≡ t → (o : Option Entry) → cond t (visit_with e (plane_within len e o)) [] ≡ v ∷ vs → Visited len e v
-    go true t none k = absurd (let z : ◌≡◌ {A = ℕ} 0 1 = cc in omega arith)
-    go true t (some q) k = inner t q (given (leb (end e) len && leb (end q) len) q) refl k
+    go true t None k = absurd (let z : ◌≡◌ {A = ℕ} 0 1 = cc in omega arith)
+    go true t (Some q) k = inner t q (given (leb (end e) len && leb (end q) len) q) refl k
     go false t o k = absurd (let z : ◌≡◌ {A = ℕ} 0 1 = cc in omega arith)
 
 -- there is no second visit
@@ -136,8 +136,8 @@ unfolding visit_of
 only_one len all e v w vs h = go (is_protected e) (plane_of len all e) h
   where
     go : (t : Bool) (o : Option Entry) → cond t (visit_with e o) [] ≡ v ∷ w ∷ vs → ⊥
-    go true none k = absurd (let z : ◌≡◌ {A = ℕ} 0 1 = cc in omega arith)
-    go true (some q) k = let m : ◌≡◌ {A = List Visit} [] (w ∷ vs) = cc in absurd (let z : ◌≡◌ {A = ℕ} 0 1 = cc in omega arith)
+    go true None k = absurd (let z : ◌≡◌ {A = ℕ} 0 1 = cc in omega arith)
+    go true (Some q) k = let m : ◌≡◌ {A = List Visit} [] (w ∷ vs) = cc in absurd (let z : ◌≡◌ {A = ℕ} 0 1 = cc in omega arith)
     go false o k = absurd (let z : ◌≡◌ {A = ℕ} 0 1 = cc in omega arith)
 
 module _ {len : ℕ} {e : Entry} {v : Visit} (h : Visited len e v) where
@@ -172,15 +172,15 @@ region_good {len} i s g = go (nth i (directory_at s))
     by_visits e (v ∷ w ∷ vs) k = absurd (only_one (length s.image) (directory_at s) e v w vs k)
 
     go : (o : Option Entry) → Good len (scrub_visits (visit_at (length s.image) (directory_at s) o) s).image
-    go none = g
-    go (some e) = by_visits e (visit_of (length s.image) (directory_at s) e) refl
+    go None = g
+    go (Some e) = by_visits e (visit_of (length s.image) (directory_at s) e) refl
 
 region_changes : (x : List ℕ) (i : ℕ) (s : State) → Before x i s → i < count x → parse_verdict s.image ≡ fine → Good (length s.image) s.image
     → (b : ℕ) → (at (scrub_region i s).image b ≡ at s.image b → ⊥) → Changes x b
 unfolding scrub_region scrub_visits scrub_word
 region_changes x i s before counted parses g b n = go (nth i (directory_at s)) refl n
   where
-    at_word : (e : Entry) → nth i (directory_at s) ≡ some e → (v : Visit) → visit_of (length s.image) (directory_at s) e ≡ v ∷ [] → Changing (words_of v) (entered s) b → Changes x b
+    at_word : (e : Entry) → nth i (directory_at s) ≡ Some e → (v : Visit) → visit_of (length s.image) (directory_at s) e ≡ v ∷ [] → Changing (words_of v) (entered s) b → Changes x b
     at_word e listed v k c =
         let h : Visited (length s.image) e v = visited_by (length s.image) (directory_at s) e v [] k in
         let t = scrub_words c.done (entered s) in
@@ -219,14 +219,14 @@ region_changes x i s before counted parses g b n = go (nth i (directory_at s)) r
           inside = (omega arith, omega arith);
         }
 
-    by_visits : (e : Entry) → nth i (directory_at s) ≡ some e → (vs : List Visit) → visit_of (length s.image) (directory_at s) e ≡ vs → (at (scrub_visits vs s).image b ≡ at s.image b → ⊥) → Changes x b
+    by_visits : (e : Entry) → nth i (directory_at s) ≡ Some e → (vs : List Visit) → visit_of (length s.image) (directory_at s) e ≡ vs → (at (scrub_visits vs s).image b ≡ at s.image b → ⊥) → Changes x b
     by_visits e l [] k m = absurd (m refl)
     by_visits e l (v ∷ []) k m = at_word e l v k (changing (words_of v) (entered s) b m)
     by_visits e l (v ∷ w ∷ vs) k m = absurd (only_one (length s.image) (directory_at s) e v w vs k)
 
     go : (o : Option Entry) → nth i (directory_at s) ≡ o → (at (scrub_visits (visit_at (length s.image) (directory_at s) o) s).image b ≡ at s.image b → ⊥) → Changes x b
-    go none l m = absurd (m refl)
-    go (some e) l m = by_visits e l (visit_of (length s.image) (directory_at s) e) refl m
+    go None l m = absurd (m refl)
+    go (Some e) l m = by_visits e l (visit_of (length s.image) (directory_at s) e) refl m
 
 -- ---- region after region
 
@@ -246,7 +246,7 @@ from_changes x (suc n) i s e before g b m =
     pick f k l (no d) = region_changes x i s before (omega arith) f (record { size = refl; bytes = g.bytes }) b d
 
     go : (v : Verdict) → parse_verdict s.image ≡ v
-        → (at (if_parsed v (scrub_from n (suc i) (scrub_region i s)) (record { image = s.image; report = none })).image b ≡ at s.image b → ⊥) → Later x n i s b → Changes x b
+        → (at (if_parsed v (scrub_from n (suc i) (scrub_region i s)) (record { image = s.image; report = None })).image b ≡ at s.image b → ⊥) → Later x n i s b → Changes x b
     go fine f k l = pick f k l (ℕ_discrete (at (scrub_region i s).image b) (at s.image b))
     go (refuse c d) f k l = absurd (k refl)
 
@@ -254,7 +254,7 @@ pub only_met : (x : List ℕ) → Bytes x → (b : ℕ) → (at (scrub x).image 
 unfolding scrub
 only_met x bx b m = go (parse_verdict x) m
   where
-    go : (v : Verdict) → (at (if_parsed v (scrub_from (count x) 0 (begun x)) (record { image = x; report = none })).image b ≡ at x b → ⊥) → Changes x b
+    go : (v : Verdict) → (at (if_parsed v (scrub_from (count x) 0 (begun x)) (record { image = x; report = None })).image b ≡ at x b → ⊥) → Changes x b
     go fine k = from_changes x (count x) 0 (begun x) (zero-add (count x)) first (record { size = refl; bytes = bx }) b k
     go (refuse c d) k = absurd (k refl)
 
@@ -288,37 +288,37 @@ module _ (x : List ℕ) where
   unfolding parse
   spoiled y n d e = rw e refl
 
-  not_given : (t : Bool) (r : Report) → given t r ≡ none → t ≡ false
+  not_given : (t : Bool) (r : Report) → given t r ≡ None → t ≡ false
   not_given true r e = absurd (let z : ◌≡◌ {A = ℕ} 0 1 = cc in omega arith)
   not_given false r e = refl
 
-  from_idle : (n i : ℕ) (s : State) → Idle s → (scrub_from n i s).report ≡ none → Unsaid (scrub_from n i s).image
+  from_idle : (n i : ℕ) (s : State) → Idle s → (scrub_from n i s).report ≡ None → Unsaid (scrub_from n i s).image
   unfolding scrub_from
   from_idle zero i s h e = inl (h (not_given s.visited (report s.met) e))
   from_idle (suc n) i s h e = go (parse_verdict s.image) refl e (from_idle n (suc i) (scrub_region i s) (region_idle i s h))
     where
       go : (v : Verdict) → parse_verdict s.image ≡ v
-          → (if_parsed v (scrub_from n (suc i) (scrub_region i s)) (record { image = s.image; report = none })).report ≡ none
-          → ((scrub_from n (suc i) (scrub_region i s)).report ≡ none → Unsaid (scrub_from n (suc i) (scrub_region i s)).image)
-          → Unsaid (if_parsed v (scrub_from n (suc i) (scrub_region i s)) (record { image = s.image; report = none })).image
+          → (if_parsed v (scrub_from n (suc i) (scrub_region i s)) (record { image = s.image; report = None })).report ≡ None
+          → ((scrub_from n (suc i) (scrub_region i s)).report ≡ None → Unsaid (scrub_from n (suc i) (scrub_region i s)).image)
+          → Unsaid (if_parsed v (scrub_from n (suc i) (scrub_region i s)) (record { image = s.image; report = None })).image
       go fine f k r = r k
       go (refuse c d) f k r = inr (c, d, spoiled s.image c d f)
 
-  pub nothing_said : (scrub x).report ≡ none → Unsaid (scrub x).image
+  pub nothing_said : (scrub x).report ≡ None → Unsaid (scrub x).image
   unfolding scrub
   nothing_said e = go (parse_verdict x) e
     where
-      go : (v : Verdict) → (if_parsed v (scrub_from (count x) 0 (begun x)) (record { image = x; report = none })).report ≡ none
-          → Unsaid (if_parsed v (scrub_from (count x) 0 (begun x)) (record { image = x; report = none })).image
+      go : (v : Verdict) → (if_parsed v (scrub_from (count x) 0 (begun x)) (record { image = x; report = None })).report ≡ None
+          → Unsaid (if_parsed v (scrub_from (count x) 0 (begun x)) (record { image = x; report = None })).image
       go fine k = from_idle (count x) 0 (begun x) (λ t. refl) k
       go (refuse c d) k = inl refl
 
   -- an image that parse refuses
-  pub refused_scrub : (n d : ℕ) → parse x ≡ refused n d → scrub x ≡ record { image = x; report = none }
+  pub refused_scrub : (n d : ℕ) → parse x ≡ refused n d → scrub x ≡ record { image = x; report = None }
   unfolding scrub parse
   refused_scrub n d e = go (parse_verdict x) e
     where
       go : (v : Verdict) → parsed_as v (header_of x) ≡ refused n d
-          → if_parsed v (scrub_from (count x) 0 (begun x)) (record { image = x; report = none }) ≡ record { image = x; report = none }
+          → if_parsed v (scrub_from (count x) 0 (begun x)) (record { image = x; report = None }) ≡ record { image = x; report = None }
       go fine k = absurd (let z : ◌≡◌ {A = ℕ} 0 1 = cc in omega arith)
       go (refuse c d) k = refl

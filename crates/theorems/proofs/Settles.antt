@@ -2,7 +2,7 @@
 use mathlib.Core.Path.{◌≡◌, refl, sym, ap, ap₂, ◌∙◌}
 use mathlib.Core.Bool.{Bool, true, false}
 use mathlib.Core.List.{List, []}
-use mathlib.Core.Option.{Option, none, some}
+use Rattle.std.specs.Prelude.{Option, None, Some}
 use Prim.Native.Nat.{ℕ, ◌+◌, ◌*◌, ◌≤◌, ◌<◌}
 use native.Mathlib.Omega.{arith}
 use lib.ListN.{length, drop, length-drop}
@@ -69,8 +69,8 @@ module _ (y : List ℕ) (long : header_length (count y) ≤ length y) (f : (p : 
 -- ---- the scan of what mend leaves
 
 whole_again : (r : Option Report) → none_uncorrectable (uncorrected r) ≡ none_uncorrectable r
-whole_again none = refl
-whole_again (some r) = refl
+whole_again None = refl
+whole_again (Some r) = refl
 
 module _ (x y : List ℕ) (r : Option Report) (k : ℕ) (t : Bool) (b : Bytes x) (h : mend x ≡ mended y r k t) where
   m : Mends x y r k t

@@ -1,6 +1,5 @@
 -- Damage of the kind that mend undoes, and the words in which the demands are stated. (FORMAT 3, 7, 9, 10)
-use Rattle.std.specs.Prelude.{◌≡◌, true, false, List, ◌∷◌, ◌++◌, ℕ, zero, suc, ◌+◌, ◌*◌, ◌/◌, ◌≤◌, ◌<◌, ltb, length, get_or}
-use Rattle.std.proofs.Math.Option.{Option, none, some}
+use Rattle.std.specs.Prelude.{◌≡◌, true, false, List, ◌∷◌, ◌++◌, ℕ, zero, suc, ◌+◌, ◌*◌, ◌/◌, ◌≤◌, ◌<◌, ltb, length, get_or, Option, None, Some}
 use Rattle.bits.specs.Bit.{bit, num, xor_b}
 use Rattle.model.specs.Bytes.{at, word_at, given, part, Bytes}
 use Rattle.model.specs.Layout.{count, Entry}
@@ -81,8 +80,8 @@ Uncorrectable d q c = decode (word_at d q) (at d c) ≡ uncorrectable
 
 -- the report with 0 corrected words
 abbrev pub uncorrected : Option Report → Option Report
-uncorrected none = none
-uncorrected (some r) = some (record { words = r.words; corrected = 0; uncorrectable = r.uncorrectable })
+uncorrected None = None
+uncorrected (Some r) = Some (record { words = r.words; corrected = 0; uncorrectable = r.uncorrectable })
 
 -- the entry of row r, which stands behind the rows `before`
 abbrev pub entry_of_row : List Row → List Row → Row → Entry
@@ -92,7 +91,7 @@ pub record ReadsBack (rs : List Row) (payload w : List ℕ) : Type 0 where
   pub parses : parse w ≡ accepted (record { regions = regions rs; prologue_disagreed = false; directory_disagreed = false })
   -- each row's region is found by its kind and hands back its part of the payload
   pub finds : (before : List Row) (r : Row) (behind : List Row) → rs ≡ before ++ (r ∷ behind)
-      → find_region (regions rs) w r.kind ≡ some (entry_of_row rs before r)
+      → find_region (regions rs) w r.kind ≡ Some (entry_of_row rs before r)
   pub hands : (before : List Row) (r : Row) (behind : List Row) → rs ≡ before ++ (r ∷ behind)
       → part_of w (bytes_span (length w) (entry_of_row rs before r)) ≡ part payload (8 * row_words_lem before) (8 * (row_words_lem before + region_words r))
   -- each word of a row flagged 2 is protected, with a check byte of its own in the row's plane

@@ -1,6 +1,5 @@
 -- The states that scrub passes through, and the words that it meets in them. (FORMAT 8)
-use Rattle.std.specs.Prelude.{◌≡◌, true, false, List, [], ◌∷◌, ◌++◌, ℕ, suc, ◌+◌, ◌*◌, ◌/◌, ◌<◌, length, get_or}
-use Rattle.std.proofs.Math.Option.{some}
+use Rattle.std.specs.Prelude.{◌≡◌, true, false, List, [], ◌∷◌, ◌++◌, ℕ, suc, ◌+◌, ◌*◌, ◌/◌, ◌<◌, length, get_or, Some}
 use Rattle.model.specs.Bytes.{at, word_at}
 use Rattle.model.specs.Refusals.{fine}
 use Rattle.model.specs.Layout.{count, directory, Entry}
@@ -31,7 +30,7 @@ pub record Meets (x : List ℕ) (p : Codeword) (t : State) : Type 0 where
   pub counted : i < count x
   pub parses : parse_verdict s.image ≡ fine
   pub region : Entry
-  pub listed : nth i (directory s.image) ≡ some region
+  pub listed : nth i (directory s.image) ≡ Some region
   -- the region is protected, and has a plane
   pub protected : is_protected region ≡ true
   pub visit : Visit

@@ -1,7 +1,7 @@
 -- What an answer says of the verdict behind it. Assumes nothing.
 use mathlib.Core.Path.{◌≡◌, refl, sym, ap, ◌∙◌}
 use mathlib.Core.List.{List}
-use mathlib.Core.Option.{Option, none, some}
+use Rattle.std.specs.Prelude.{Option, None, Some}
 use Prim.Native.Nat.{ℕ}
 use native.Mathlib.Omega.{arith}
 use Rattle.model.specs.Layout.{Entry, count}
@@ -38,13 +38,13 @@ with_refused v k d m e = ap (λ (w : Verdict). with_count w m) (sym e)
 
 -- ---- a region that is found stands for an entry
 
-pub found_some : (o : Option Entry) (p : Region) → Found p ≡ found_as o → (e : Entry) × (o ≡ some e) × (p ≡ region_of e)
-found_some none p f = let z : ◌≡◌ {A = ℕ} 0 1 = cc in absurd (omega arith)
-found_some (some e) p f = (e, refl, cc)
+pub found_some : (o : Option Entry) (p : Region) → Found p ≡ found_as o → (e : Entry) × (o ≡ Some e) × (p ≡ region_of e)
+found_some None p f = let z : ◌≡◌ {A = ℕ} 0 1 = cc in absurd (omega arith)
+found_some (Some e) p f = (e, refl, cc)
 
-pub found_none : (o : Option Entry) → Nothing ≡ found_as o → o ≡ none
-found_none none f = refl
-found_none (some e) f = cc
+pub found_none : (o : Option Entry) → Nothing ≡ found_as o → o ≡ None
+found_none None f = refl
+found_none (Some e) f = cc
 
 -- ---- a parse that is accepted, and one that is refused
 

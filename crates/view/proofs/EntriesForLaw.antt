@@ -2,7 +2,7 @@
 use mathlib.Core.Path.{◌≡◌, sym, ap, ◌∙◌}
 use mathlib.Core.Bool.{Bool, true, false, not, ◌&&◌, cond}
 use mathlib.Core.List.{List, []}
-use mathlib.Core.Option.{none, some}
+use Rattle.std.specs.Prelude.{None, Some}
 use Prim.Native.Nat.{ℕ, ◌+◌, ◌*◌, ◌^◌, ◌≤◌, ◌<◌}
 use native.Mathlib.Omega.{arith}
 use borrow.Author.Tests.{eq-eqb, ne_eqb, lt-ltb, le-ltb, le-leb, lt-leb}
@@ -45,23 +45,23 @@ entries_for_is x h = entries_for_long (count x) x (accepted_long x h)
 
 -- ---- by index
 
-pub region_short : (n : ℕ) (x : List ℕ) (i : ℕ) → length x < header_length n → region_at n x i ≡ none
+pub region_short : (n : ℕ) (x : List ℕ) (i : ℕ) → length x < header_length n → region_at n x i ≡ None
 unfolding region_at nth
 region_short n x i h = rw (entries_for_short n x h)
 
-pub region_past : (n : ℕ) (x : List ℕ) (i : ℕ) → header_length n ≤ length x → n ≤ i → region_at n x i ≡ none
+pub region_past : (n : ℕ) (x : List ℕ) (i : ℕ) → header_length n ≤ length x → n ≤ i → region_at n x i ≡ None
 unfolding region_at
 region_past n x i h l = rw (entries_for_long n x h) (nth_past (directory_of n x) i (omega (arith, length_directory_of n x)))
 
-pub region_in : (n : ℕ) (x : List ℕ) (i : ℕ) → header_length n ≤ length x → i < n → region_at n x i ≡ some (entry_in n x i)
+pub region_in : (n : ℕ) (x : List ℕ) (i : ℕ) → header_length n ≤ length x → i < n → region_at n x i ≡ Some (entry_in n x i)
 unfolding region_at directory_of
 region_in n x i h l =
     rw (entries_for_long n x h)
-    (nth_in (entries n (directory_bytes_of n x)) i no_entry (omega (arith, length_directory_of n x)) ∙ ap some (entry_at_lem n (directory_bytes_of n x) i no_entry l))
+    (nth_in (entries n (directory_bytes_of n x)) i no_entry (omega (arith, length_directory_of n x)) ∙ ap Some (entry_at_lem n (directory_bytes_of n x) i no_entry l))
 
 -- ---- by kind, and by the kind that a plane covers
 
-pub find_short : (n : ℕ) (x : List ℕ) (k : ℕ) → length x < header_length n → find_region n x k ≡ none
+pub find_short : (n : ℕ) (x : List ℕ) (k : ℕ) → length x < header_length n → find_region n x k ≡ None
 unfolding find_region first_that
 find_short n x k h = rw (entries_for_short n x h)
 
@@ -69,21 +69,21 @@ pub find_long : (n : ℕ) (x : List ℕ) (k : ℕ) → header_length n ≤ lengt
 unfolding find_region
 find_long n x k h = rw (entries_for_long n x h)
 
-pub ecc_short : (n : ℕ) (x : List ℕ) (k : ℕ) → length x < header_length n → ecc_for n x k ≡ none
+pub ecc_short : (n : ℕ) (x : List ℕ) (k : ℕ) → length x < header_length n → ecc_for n x k ≡ None
 unfolding ecc_for first_that
 ecc_short n x k h = rw (entries_for_short n x h)
 
 module _ (n : ℕ) (x : List ℕ) (k : ℕ) (h : header_length n ≤ length x) where
-  pub ecc_none : first_that (plane_for k) (directory_of n x) ≡ none → ecc_for n x k ≡ none
+  pub ecc_none : first_that (plane_for k) (directory_of n x) ≡ None → ecc_for n x k ≡ None
   unfolding ecc_for
   ecc_none e = rw (entries_for_long n x h, e)
 
-  module _ (p : Entry) (e : first_that (plane_for k) (directory_of n x) ≡ some p) where
-    pub ecc_past : length x < end p → ecc_for n x k ≡ none
+  module _ (p : Entry) (e : first_that (plane_for k) (directory_of n x) ≡ Some p) where
+    pub ecc_past : length x < end p → ecc_for n x k ≡ None
     unfolding ecc_for
     ecc_past l = rw (entries_for_long n x h, e, lt-leb (end p) (length x) l)
 
-    pub ecc_there : end p ≤ length x → ecc_for n x k ≡ some (range (start p) (end p))
+    pub ecc_there : end p ≤ length x → ecc_for n x k ≡ Some (range (start p) (end p))
     unfolding ecc_for
     ecc_there l = rw (entries_for_long n x h, e, le-leb (end p) (length x) l)
 

@@ -1,6 +1,5 @@
 -- The model's reading of each answer. (FORMAT 5, 6)
-use Rattle.std.proofs.Math.Option.{Option, none, some}
-use Rattle.std.specs.Prelude.{ℕ}
+use Rattle.std.specs.Prelude.{Option, None, Some, ℕ}
 use Rattle.model.specs.Layout.{Entry}
 use Rattle.layout.specs.Regions.{region_of}
 use Rattle.view.specs.declared.regions.RegionAt.{RegionAt}
@@ -29,8 +28,8 @@ as_parsed (parse.Refused r) = refused (number_of r) (detail_of r)
 
 -- an entry, as the region that is handed out
 abbrev pub found_as : Option Entry → RegionAt
-found_as none = found.Nothing
-found_as (some e) = found.Found (region_of e)
+found_as None = found.Nothing
+found_as (Some e) = found.Found (region_of e)
 
 -- ---- steps of code, for private contracts
 

@@ -1,5 +1,5 @@
 use mathlib.Core.Path.{◌≡◌, refl, sym}
-use mathlib.Core.Option.{Option, none, some}
+use Rattle.std.specs.Prelude.{Option, None, Some}
 use Prim.Native.Nat.{ℕ, ◌%◌}
 use native.Mathlib.Omega.{arith}
 use borrow.Author.Tests.{ne_eqb, lt-ltb}
@@ -20,8 +20,8 @@ module _ (s : ℕ) (f : s ≡ 0 → ⊥) where
   is_odd o {i} e = let one : ones s % 2 ≡ 1 = omega arith in rw (ne_eqb s 0 f, one, e) (go (find s columns) refl)
     where
       go : (m : Option ℕ) → find s columns ≡ m → flipped_at m ≡ class_of_bit (place_in m)
-      go none g = refl
-      go (some k) g = sym (rw (lt-ltb k 72 (column_found s k g).0))
+      go None g = refl
+      go (Some k) g = sym (rw (lt-ltb k 72 (column_found s k g).0))
 
 pub returns-then-syndrome-eq0 : goal.returns-then-syndrome-eq0
 returns-then-syndrome-eq0 c = (is_even c.args.syndrome c.requires c.if-syndrome-eq0.true, omega arith)

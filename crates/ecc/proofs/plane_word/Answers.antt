@@ -1,5 +1,5 @@
 use mathlib.Core.Path.{ap, ◌∙◌}
-use mathlib.Core.Option.{some}
+use Rattle.std.specs.Prelude.{Some}
 use native.Mathlib.Omega.{arith}
 use Rattle.ecc.proofs.PlaneLaw.{word_past, word_there, decoded}
 use Rattle.ecc.proofs.plane_word.Goals as goal
@@ -13,5 +13,5 @@ returns-then-index-plane_words c =
 pub returns : goal.returns
 returns c =
     let a = c.args in
-    ap some (decoded a.«data».now a.parity.now a.index c.u64_or_zero.result (omega arith) c.u64_or_zero.ensures c.decode_word.ensures)
+    ap Some (decoded a.«data».now a.parity.now a.index c.u64_or_zero.result (omega arith) c.u64_or_zero.ensures c.decode_word.ensures)
     ∙ word_there a.«data».now a.parity.now a.index (omega (arith, c.plane_words.ensures.0))

@@ -1,6 +1,6 @@
 use mathlib.Core.Path.{◌≡◌, ap, ap₂, ◌∙◌}
 use mathlib.Core.Bool.{Bool}
-use mathlib.Core.Option.{Option}
+use Rattle.std.specs.Prelude.{Option}
 use Prim.Native.Nat.{ℕ}
 use Rattle.model.specs.Refusals.{fine}
 use Rattle.model.specs.Layout.{count}

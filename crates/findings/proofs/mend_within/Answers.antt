@@ -1,5 +1,5 @@
 use mathlib.Core.Path.{ap, ◌∙◌}
-use mathlib.Core.Option.{Option, some}
+use Rattle.std.specs.Prelude.{Option, Some}
 use Rattle.model.specs.Mend.{MendAnswer}
 use Rattle.model.proofs.ProgramsLaw.{mend_long, mend_short}
 use Rattle.findings.specs.Answers.{left_within}
@@ -18,11 +18,11 @@ returns-in-Refused c =
     let a = c.args in
     let x = a.image.now in
     let e = mend_short a.limit x c.if-image-limit.false in
-    record { is = ap some c.in-Refused.ensures.is ∙ e; leaves = c.mend.ensures.leaves ∙ ap (λ (o : Option MendAnswer). left_within o x) e }
+    record { is = ap Some c.in-Refused.ensures.is ∙ e; leaves = c.mend.ensures.leaves ∙ ap (λ (o : Option MendAnswer). left_within o x) e }
 
 pub returns-in-Mended : goal.returns-in-Mended
 returns-in-Mended c =
     let a = c.args in
     let x = a.image.now in
     let e = mend_short a.limit x c.if-image-limit.false in
-    record { is = ap some c.in-Mended.ensures.is ∙ e; leaves = c.mend.ensures.leaves ∙ ap (λ (o : Option MendAnswer). left_within o x) e }
+    record { is = ap Some c.in-Mended.ensures.is ∙ e; leaves = c.mend.ensures.leaves ∙ ap (λ (o : Option MendAnswer). left_within o x) e }

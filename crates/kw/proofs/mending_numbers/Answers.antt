@@ -1,6 +1,6 @@
 use mathlib.Core.Path.{◌≡◌, refl, ap, ◌∙◌}
 use mathlib.Core.List.{List, [], ◌∷◌, ◌++◌}
-use mathlib.Core.Option.{Option, none, some}
+use Rattle.std.specs.Prelude.{Option, None, Some}
 use Prim.Native.Nat.{ℕ}
 use borrow.Author.Rules.{rules}
 use lib.ListN.{get_or}
@@ -17,8 +17,8 @@ abbrev first_four : List ℕ → List ℕ → List ℕ
 first_four n rest = get_or n 0 0 ∷ get_or n 1 0 ∷ get_or n 2 0 ∷ get_or n 3 0 ∷ rest
 
 all_four : (s : Option Report) (rest : List ℕ) → first_four (report_numbers s) rest ≡ report_numbers s ++ rest
-all_four (some r) rest = refl
-all_four none rest = refl
+all_four (Some r) rest = refl
+all_four None rest = refl
 
 pub returns : goal.returns
 returns c =

@@ -1,5 +1,5 @@
 use mathlib.Core.Path.{◌≡◌, ap}
-use mathlib.Core.Option.{some}
+use Rattle.std.specs.Prelude.{Some}
 use Prim.Native.Nat.{◌+◌, ◌*◌, ◌^◌}
 use native.Mathlib.Omega.{arith}
 use borrow.Author.Tests.{lt-ltb, le-ltb}
@@ -16,4 +16,4 @@ unfolding header_bytes
 returns c =
     let n = c.args.region_count in
     let e : n * 16 * 3 + 48 ≡ header_length n = omega arith in
-    simp (lt-ltb (header_length n) (2 ^ 64) (omega arith)) (ap some e)
+    simp (lt-ltb (header_length n) (2 ^ 64) (omega arith)) (ap Some e)

@@ -1,5 +1,5 @@
 use mathlib.Core.Path.{ap, ◌∙◌}
-use mathlib.Core.Option.{none}
+use Rattle.std.specs.Prelude.{None}
 use Prim.Native.Nat.{ℕ}
 use native.Mathlib.Omega.{arith}
 use lib.ListN.{take}
@@ -35,7 +35,7 @@ returns-then-not-overlaps_any c =
     let o = c.byte_offset.ensures in
     let g = c.args in
     λ es s.
-    lies_there g.n (as_entry g.region) es g.spans.now g.i g.high s (omega arith) (omega arith) (omega arith) none
+    lies_there g.n (as_entry g.region) es g.spans.now g.i g.high s (omega arith) (omega arith) (omega arith) None
     (is_none (overlaps_from g.region.word_offset w.result g.spans.now 0 g.i) a.result c.if-not-overlaps_any.true-raw a.ensures ∙ ap (λ (m : ℕ). overlaps_from g.region.word_offset m g.spans.now 0 g.i) w.ensures)
 
 pub returns : goal.returns

@@ -1,7 +1,7 @@
 use mathlib.Core.Path.{◌≡◌, refl, sym, ap, ap₂, ◌∙◌, subst}
 use mathlib.Core.Bool.{false}
 use mathlib.Core.List.{List, []}
-use mathlib.Core.Option.{none}
+use Rattle.std.specs.Prelude.{None}
 use Prim.Native.Nat.{ℕ, suc, ◌+◌, ◌-◌, ◌<◌}
 use native.Mathlib.Omega.{arith}
 use Rattle.model.specs.Refusals.{fine}
@@ -79,7 +79,7 @@ returns-in_default-parse c =
     let z : suc (n - (c.loop-i.i + 1)) ≡ n - c.loop-i.i = omega arith in
     let q = c.loop-i.invariant.4 in
     let s = q.state in
-    let e : (record { image = s.image; report = none }) ≡ model.scrub g.bytes.now =
+    let e : (record { image = s.image; report = None }) ≡ model.scrub g.bytes.now =
     sym (from_failed (n - (c.loop-i.i + 1)) c.loop-i.i s _ _ (ap parse_verdict (sym q.stands.image) ∙ parsed_refused c.loop-i.bytes c.parse-then-tally-written.result c.parse-then-tally-written.ensures _ c.in_default-parse.is))
     ∙ ap (λ (m : ℕ). scrub_from m c.loop-i.i s) z ∙ q.ends in
     record { is = ap (λ (r : Scrubbed). r.report) e; leaves = q.stands.image ∙ ap (λ (r : Scrubbed). r.image) e }

@@ -3,7 +3,7 @@ use mathlib.Core.List.{List}
 use Prim.Native.Nat.{ℕ, ◌≤◌, ◌<◌}
 use native.Mathlib.Omega.{arith}
 use lib.ListN.{length}
-use mathlib.Core.Option.{none, some}
+use Rattle.std.specs.Prelude.{None, Some}
 use Rattle.model.specs.Layout.{Entry, directory_of, start, end}
 use Rattle.model.specs.Views.{first_that, plane_for}
 use Rattle.view.specs.declared.regions.RegionAt.TheVariants.{Found}
@@ -19,18 +19,18 @@ use Rattle.view.proofs.regions.ecc_for.Goals as goal
 -- `view::regions::ecc_for` meets its contract. Assumes nothing.
 -- the first plane that covers the kind is handed out as p
 module _ (n : ℕ) (x : List ℕ) (k : ℕ) (h : header_length n ≤ length x) (p : Region) (f : Found p ≡ found_as (first_that (plane_for k) (directory_of n x))) where
-  plane : (e : Entry) × (first_that (plane_for k) (directory_of n x) ≡ some e) × (p ≡ region_of e)
+  plane : (e : Entry) × (first_that (plane_for k) (directory_of n x) ≡ Some e) × (p ≡ region_of e)
   plane = found_some (first_that (plane_for k) (directory_of n x)) p f
 
   ends : end (as_entry p) ≡ end plane.0
   ends = ap (λ (r : Region). end (as_entry r)) plane.2
 
-  past_end : (b : ℕ) → b ≡ end (as_entry p) → length x < b → none ≡ ecc_for n x k
+  past_end : (b : ℕ) → b ≡ end (as_entry p) → length x < b → None ≡ ecc_for n x k
   past_end b q l = sym (ecc_past n x k h plane.0 plane.1 (subst (λ (z : ℕ). length x < z) (q ∙ ends) l))
 
-  there : (a b : ℕ) → a ≡ start (as_entry p) → b ≡ end (as_entry p) → b ≤ length x → some (range a b) ≡ ecc_for n x k
+  there : (a b : ℕ) → a ≡ start (as_entry p) → b ≡ end (as_entry p) → b ≤ length x → Some (range a b) ≡ ecc_for n x k
   there a b o q l =
-      ap₂ (λ (i j : ℕ). some (range i j)) (o ∙ ap (λ (r : Region). start (as_entry r)) plane.2) (q ∙ ends)
+      ap₂ (λ (i j : ℕ). Some (range i j)) (o ∙ ap (λ (r : Region). start (as_entry r)) plane.2) (q ∙ ends)
       ∙ sym (ecc_there n x k h plane.0 plane.1 (subst (λ (z : ℕ). z ≤ length x) (q ∙ ends) l))
 
 pub returns-then-bytes-header_length : goal.returns-then-bytes-header_length
