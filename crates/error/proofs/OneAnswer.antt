@@ -7,8 +7,7 @@ use lib.ListN.{get_or}
 use Rattle.model.proofs.OneAnswer.{OneAnswer, agree}
 use Rattle.error.specs.declared.Refusal.{Refusal}
 use Rattle.error.specs.declared.Refusal.TheVariants.{Truncated, BadMagic, ForeignEndian, UnsupportedVersion, BadPrologueChecksum, TooManyRegions, RegionOutOfBounds, DuplicateRegion, BadRecordStride, Overflow, TooLarge, OverlappingRegions, NoRoom, BadPlan, BadHexLine, HexGap}
-use Rattle.error.specs.declared.Check.{Check}
-use Rattle.error.specs.declared.Check.TheVariants as check
+use Rattle.std.specs.Prelude.{Result, Ok, Err}
 use Rattle.error.specs.Refused.{number_of, detail_of, as_verdict, as_check}
 use Rattle.error.proofs.Refusal.number.Reads as number
 use Rattle.error.proofs.Refusal.detail.Reads as detail
@@ -45,11 +44,11 @@ one_refusal a b e =
     let d : detail_of a ≡ detail_of b = cc in
     sym (decoded a) ∙ ap₂ decode n d ∙ decoded b
 
-pub one_check : (a b : Check) → as_check a ≡ as_check b → a ≡ b
-one_check check.Fine check.Fine e = refl
-one_check check.Fine (check.Refuse r) e = let z : ◌≡◌ {A = ℕ} 0 1 = cc in absurd (omega arith)
-one_check (check.Refuse r) check.Fine e = let z : ◌≡◌ {A = ℕ} 0 1 = cc in absurd (omega arith)
-one_check (check.Refuse r) (check.Refuse s) e = ap check.Refuse (one_refusal r s e)
+pub one_check : (a b : Result Unit Refusal) → as_check a ≡ as_check b → a ≡ b
+one_check (Ok a) (Ok b) e = refl
+one_check (Ok a) (Err r) e = let z : ◌≡◌ {A = ℕ} 0 1 = cc in absurd (omega arith)
+one_check (Err r) (Ok b) e = let z : ◌≡◌ {A = ℕ} 0 1 = cc in absurd (omega arith)
+one_check (Err r) (Err s) e = ap Err (one_refusal r s e)
 
 -- ---- no two answers of a function fit its promise
 

@@ -1,10 +1,8 @@
 -- A refusal as the model gives it, its number and its detail, and a check's verdict. (FORMAT 2)
-use Rattle.std.specs.Prelude.{ℕ}
+use Rattle.std.specs.Prelude.{ℕ, Result, Ok, Err}
 use Rattle.model.specs.Refusals.{truncated, bad_magic, foreign_endian, unsupported_version, bad_prologue_checksum, too_many_regions, region_out_of_bounds, duplicate_region, bad_record_stride, overflow, too_large_lem, overlapping_regions, no_room_lem, bad_plan, bad_hex_line, hex_gap, Verdict, fine, refuse}
 use Rattle.error.specs.declared.Refusal.{Refusal}
 use Rattle.error.specs.declared.Refusal.TheVariants.{Truncated, BadMagic, ForeignEndian, UnsupportedVersion, BadPrologueChecksum, TooManyRegions, RegionOutOfBounds, DuplicateRegion, BadRecordStride, Overflow, TooLarge, OverlappingRegions, NoRoom, BadPlan, BadHexLine, HexGap}
-use Rattle.error.specs.declared.Check.{Check}
-use Rattle.error.specs.declared.Check.TheVariants as check
 
 abbrev pub number_of : Refusal → ℕ
 number_of Truncated = truncated
@@ -45,6 +43,6 @@ detail_of (HexGap d) = d
 abbrev pub as_verdict : Refusal → Verdict
 as_verdict r = refuse (number_of r) (detail_of r)
 
-abbrev pub as_check : Check → Verdict
-as_check check.Fine = fine
-as_check (check.Refuse r) = as_verdict r
+abbrev pub as_check : Result Unit Refusal → Verdict
+as_check (Ok done) = fine
+as_check (Err r) = as_verdict r

@@ -4,7 +4,7 @@
 ghost use Rattle.std.specs.Prelude.{◌≡◌};
 ghost use Rattle.error.specs.Refused.{number_of, detail_of};
 
-#[derive(Clone, Copy)]
+#[derive(Clone, Copy, Debug, PartialEq, Eq)]
 pub enum Refusal {
     Truncated,
     BadMagic,
@@ -25,13 +25,6 @@ pub enum Refusal {
     // A line's number, from 1.
     BadHexLine { line: usize },
     HexGap { line: usize },
-}
-
-// What a run of checks says.
-#[derive(Clone, Copy)]
-pub enum Check {
-    Fine,
-    Refuse(Refusal),
 }
 
 impl Refusal {
@@ -63,19 +56,19 @@ impl Refusal {
         ensures { result ≡ detail_of self }
     {
         match self {
-            Refusal::Truncated => 0,
-            Refusal::BadMagic => 0,
-            Refusal::ForeignEndian => 0,
+            Refusal::Truncated
+            | Refusal::BadMagic
+            | Refusal::ForeignEndian
+            | Refusal::BadPrologueChecksum
+            | Refusal::BadRecordStride
+            | Refusal::Overflow
+            | Refusal::TooLarge
+            | Refusal::NoRoom => 0,
             Refusal::UnsupportedVersion { found } => found as u64,
-            Refusal::BadPrologueChecksum => 0,
             Refusal::TooManyRegions { found } => found as u64,
             Refusal::RegionOutOfBounds { index } => index as u64,
             Refusal::DuplicateRegion { kind } => kind as u64,
-            Refusal::BadRecordStride => 0,
-            Refusal::Overflow => 0,
-            Refusal::TooLarge => 0,
             Refusal::OverlappingRegions { index } => index as u64,
-            Refusal::NoRoom => 0,
             Refusal::BadPlan { row } => row as u64,
             Refusal::BadHexLine { line } => line as u64,
             Refusal::HexGap { line } => line as u64,
