@@ -1,6 +1,7 @@
 -- What a word of the image and its check byte say, by the table of check bytes, and the class that follows. Assumes nothing.
 use mathlib.Core.Path.{◌≡◌, refl, sym, ap, ◌∙◌}
 use mathlib.Core.List.{List}
+use Rattle.std.specs.Prelude.{unwrap_or}
 use Prim.Native.Nat.{ℕ, ◌+◌, ◌*◌, ◌≤◌}
 use native.Mathlib.Omega.{arith}
 use lib.ListN.{length}
@@ -8,14 +9,13 @@ use Rattle.model.specs.Bytes.{at, word_at, read_in}
 use Rattle.model.specs.Parity.{Class, clean, flipped, uncorrectable, flip_word, decode, Outcome, clean_word, corrected_word, uncorrectable_word, outcome_as, outcome}
 use Rattle.model.specs.Scan.{Codeword, class_at}
 use Rattle.model.proofs.ParityLaw.{decode_clean}
-use Rattle.scalar.specs.Answers.{or_zero}
 use Rattle.scalar.proofs.OrZero.{or_zero_in}
 use Rattle.ecc.specs.CheckTable.{IsCheckTable, check_with, outcome_with}
 use Rattle.ecc.proofs.CheckTableLaw.{table_check, table_outcome}
 
 -- ---- w is what code reads of a word, c its check byte
 
-module _ (x t : List ℕ) (word check w : ℕ) (h : 8 * word + 8 ≤ length x) (e : w ≡ or_zero (read_in 8 x (8 * word))) (table : IsCheckTable t) where
+module _ (x t : List ℕ) (word check w : ℕ) (h : 8 * word + 8 ≤ length x) (e : w ≡ unwrap_or (read_in 8 x (8 * word)) 0) (table : IsCheckTable t) where
   of_image : {o : Outcome} → o ≡ outcome w (at x check) → o ≡ outcome (word_at x word) (at x check)
   of_image f = f ∙ ap (λ (n : ℕ). outcome n (at x check)) (e ∙ or_zero_in 8 x (8 * word) h)
 
