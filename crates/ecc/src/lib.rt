@@ -168,7 +168,6 @@ fn one_if_corrected(syndrome: u8) -> usize
 pub fn plane_scan(parity: &[u8], data: &[u8]) -> EccReport
     ensures { as_report result ≡ slice_scan «data».now parity.now }
 {
-    let mut table = EMPTY_TABLE;
-    fill_check_table(&mut table);
-    plane_scan_with(&table, parity, data)
+    let mut room = EMPTY_TABLE;
+    CheckTable::new(&mut room).plane_scan(parity, data)
 }
