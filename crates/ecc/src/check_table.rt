@@ -56,10 +56,8 @@ fn fill_bit(table: &mut [u8; 2048], k: usize, i: usize, column: u8)
 {
     let first = 256 * k;
     let count = 1usize << i;
-    let mut j: usize = 0;
-    while j < count {
+    for j in 0..count {
         table[first + count + j] = table[first + j] ^ column;
-        j += 1;
     }
 }
 
@@ -69,10 +67,8 @@ fn fill_place(table: &mut [u8; 2048], columns: &[u8; 72], k: usize)
     ensures { Filled (256 * (k + 1)) table.new }
 {
     table[256 * k] = 0;
-    let mut i: usize = 0;
-    while i < 8 {
+    for i in 0..8usize {
         fill_bit(table, k, i, columns[8 * k + i]);
-        i += 1;
     }
 }
 
@@ -83,10 +79,8 @@ pub fn fill_check_table(table: &mut [u8; 2048])
     // The assignment tells the prover that the table has 2,048 entries; all of them are written below.
     *table = EMPTY_TABLE;
     let columns = COLUMNS;
-    let mut k: usize = 0;
-    while k < 8 {
+    for k in 0..8usize {
         fill_place(table, &columns, k);
-        k += 1;
     }
 }
 
@@ -126,8 +120,7 @@ pub fn plane_scan_with(table: &[u8; 2048], parity: &[u8], data: &[u8]) -> EccRep
     let words = plane_words(parity, data);
     let mut corrected: usize = 0;
     let mut uncorrectable: usize = 0;
-    let mut w: usize = 0;
-    while w < words {
+    for w in 0..words {
         let word = scalar::u64_or_zero(data, 8 * w);
         let syndrome = check_byte_with(table, word) ^ parity[w];
         // A clean word, which nearly every one is, counts for nothing.
@@ -136,7 +129,6 @@ pub fn plane_scan_with(table: &[u8; 2048], parity: &[u8], data: &[u8]) -> EccRep
             corrected += one;
             uncorrectable += 1 - one;
         }
-        w += 1;
     }
     EccReport {
         words,
