@@ -143,6 +143,9 @@ unfolding codewords_from
 length_from zero q c = refl
 length_from (suc m) q c = ap suc (length_from m (suc q) (suc c))
 
+pub run_length : (r : ProtectedRun) → length (codewords_of r) ≡ r.words
+run_length r = length_from r.words r.word r.check
+
 pub run_words : (x : List ℕ) (r : ProtectedRun) → (report (classes_at x (codewords_of r))).words ≡ r.words
 unfolding report
-run_words x r = length_classes x (codewords_of r) ∙ length_from r.words r.word r.check
+run_words x r = length_classes x (codewords_of r) ∙ run_length r
