@@ -107,7 +107,7 @@ pub fn decode_word(data: u64, check: u8) -> WordStatus
 }
 
 // What a scan found: words examined, words with a corrected fault, words that no single flipped bit explains.
-#[derive(Clone, Copy, Debug, PartialEq, Eq)]
+#[derive(Clone, Copy, Debug, Default, PartialEq, Eq)]
 pub struct EccReport {
     pub words: usize,
     pub corrected: usize,
