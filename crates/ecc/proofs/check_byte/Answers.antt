@@ -5,7 +5,6 @@ use Prim.Native.Nat.{ℕ, ◌+◌, ◌-◌, ◌*◌, ◌/◌, ◌%◌, ◌^◌, 
 use native.Mathlib.Nat.{div-one, mod-lt, div-add-mod'}
 use native.Mathlib.Omega.{arith}
 use native.Mathlib.Numerals.{add-one}
-use borrow.Author.Rules.{rules}
 use lib.Dec.{lit<}
 use lib.Bits.{bit_xor, xor_zero_r}
 use lib.Pow.{shr-shr, field, mod-mod-pow}
@@ -73,11 +72,11 @@ unfolding columns
 loop-i-preserved c =
     let d = c.args.«data» in
     turn d c.loop-i.s c.if-byte-i-eq1.s c.loop-i.i c.loop-i-test.true
-          (elim c.if-byte-i-eq1.branch [
-            | then-byte-i-eq1 w ↦ w.s-is ∙ ap (λ (t : Bool). bit_xor c.loop-i.s (pick t (get_or columns c.loop-i.i 0))) (sym (set d c.loop-i.i w.if-byte-i-eq1.true))
-            | else-byte-i-eq1 w ↦ w.s-is ∙ sym (xor_zero_r c.loop-i.s) ∙ ap (λ (t : Bool). bit_xor c.loop-i.s (pick t (get_or columns c.loop-i.i 0))) (sym (unset d c.loop-i.i w.if-byte-i-eq1.false))
-          ])
-          c.loop-i.invariant
+    (elim c.if-byte-i-eq1.branch [
+      | then-byte-i-eq1 w ↦ w.s-is ∙ ap (λ (t : Bool). bit_xor c.loop-i.s (pick t (get_or columns c.loop-i.i 0))) (sym (set d c.loop-i.i w.if-byte-i-eq1.true))
+      | else-byte-i-eq1 w ↦ w.s-is ∙ sym (xor_zero_r c.loop-i.s) ∙ ap (λ (t : Bool). bit_xor c.loop-i.s (pick t (get_or columns c.loop-i.i 0))) (sym (unset d c.loop-i.i w.if-byte-i-eq1.false))
+    ])
+    c.loop-i.invariant
 
 pub returns : goal.returns
 unfolding xor_columns columns

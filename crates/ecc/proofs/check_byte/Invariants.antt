@@ -1,5 +1,5 @@
 use mathlib.Core.Path.{◌≡◌}
-use Prim.Native.Nat.{◌-◌, ◌/◌, ◌^◌, ◌≤◌}
+use Prim.Native.Nat.{◌/◌, ◌^◌}
 use lib.Bits.{bit_xor}
 use lib.ListN.{take, drop}
 use Rattle.bits.specs.Linear.{xor_columns}

@@ -1,5 +1,5 @@
 use mathlib.Core.Path.{◌≡◌}
-use Prim.Native.Nat.{◌+◌, ◌-◌, ◌^◌, ◌≤◌}
+use Prim.Native.Nat.{◌+◌, ◌^◌, ◌≤◌}
 use Rattle.ecc.specs.CheckTable.{Filled}
 use Rattle.ecc.proofs.check_table.fill_bit.Given as goal
 

@@ -1,4 +1,4 @@
-use Prim.Native.Nat.{◌-◌, ◌*◌, ◌≤◌}
+use Prim.Native.Nat.{◌*◌}
 use Rattle.ecc.specs.CheckTable.{Filled}
 use Rattle.ecc.proofs.check_table.fill_check_table.Given as goal
 

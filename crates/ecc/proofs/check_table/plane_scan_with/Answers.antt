@@ -1,7 +1,6 @@
 use mathlib.Core.Path.{◌≡◌, sym, ap, ◌∙◌, subst}
 use Prim.Native.Nat.{ℕ, ◌<◌}
 use native.Mathlib.Omega.{arith}
-use borrow.Author.Rules.{rules}
 use Rattle.model.specs.Parity.{class_of}
 use Rattle.model.specs.Scan.{is_corrected, is_uncorrectable, slice_words}
 use Rattle.model.proofs.ParityLaw.{class_zero}

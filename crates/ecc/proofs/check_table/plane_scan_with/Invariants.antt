@@ -1,4 +1,4 @@
-use Prim.Native.Nat.{◌-◌, ◌≤◌}
+use Prim.Native.Nat.{◌≤◌}
 use Rattle.model.specs.Scan.{is_corrected, is_uncorrectable}
 use Rattle.ecc.proofs.PlaneLaw.{Counted}
 use Rattle.ecc.proofs.check_table.plane_scan_with.Given as goal
