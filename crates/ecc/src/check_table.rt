@@ -22,7 +22,9 @@ pub struct CheckTable<'a> {
 
 impl<'a> CheckTable<'a> {
     // It takes less than a microsecond: make it once for many words, and hand it on.
-    pub fn new(room: &'a mut [u8; 2048]) -> CheckTable<'a> {
+    pub fn new(room: &'a mut [u8; 2048]) -> CheckTable<'a>
+        ensures { IsCheckTable result.entries.now }
+    {
         fill_check_table(room);
         CheckTable { entries: room }
     }
@@ -92,7 +94,8 @@ fn entry_for(table: &[u8; 2048], data: u64, k: usize) -> u8
     table[256 * k + ((data >> (8 * k)) % 256) as usize]
 }
 
-// The check byte, by the table.
+// The check byte, by the table. The three functions whose names end in `_with` take any table and promise what that one gives: to
+// take a `CheckTable` would ask more of a caller. (docs/DECISIONS.md)
 pub fn check_byte_with(table: &[u8; 2048], data: u64) -> u8
     ensures { result ≡ check_with table.now «data» }
 {
