@@ -3,9 +3,9 @@ use Prim.Native.Nat.{ℕ, ◌-◌}
 use native.Mathlib.Omega.{arith}
 use Rattle.layout.specs.Regions.{as_entry}
 use Rattle.overlap.proofs.SpanLaw.{last_none, last_is, last_large}
-use Rattle.overlap.proofs.last_word.Goals as goal
+use Rattle.overlap.proofs.spans.last_word.Goals as goal
 
--- `overlap::last_word` meets its contract. Assumes nothing.
+-- `overlap::spans::last_word` meets its contract. Assumes nothing.
 pub returns-then-region-eq0 : goal.returns-then-region-eq0
 returns-then-region-eq0 c = let g = c.args in sym (last_none (as_entry g.region) (omega arith))
 
