@@ -6,7 +6,7 @@ ghost use Rattle.scan.specs.Answers.{as_scan};
 ghost use Rattle.model.specs.Scrub as model;
 
 use correcting::correct_region;
-use ecc::{EMPTY_TABLE, EccReport, fill_check_table};
+use ecc::{CheckTable, EMPTY_TABLE, EccReport};
 use scan::together;
 use view::parse;
 
@@ -19,8 +19,8 @@ pub fn scrub(bytes: &mut [u8]) -> Option<EccReport>
     let Ok(first) = parse(bytes) else {
         return None;
     };
-    let mut table = EMPTY_TABLE;
-    fill_check_table(&mut table);
+    let mut room = EMPTY_TABLE;
+    let table = CheckTable::new(&mut room);
     let mut header = first;
     let mut written = false;
     let mut total = None;
@@ -31,7 +31,7 @@ pub fn scrub(bytes: &mut [u8]) -> Option<EccReport>
             };
             header = again;
         }
-        let found = correct_region(&table, bytes, header, i, false);
+        let found = correct_region(table, bytes, header, i, false);
         written = found.is_some_and(EccReport::needs_scrub);
         total = together(total, found);
     }

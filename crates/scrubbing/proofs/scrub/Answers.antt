@@ -86,9 +86,6 @@ returns-in_default-parse c =
     ∙ ap (λ (m : ℕ). scrub_from m c.loop-i.i s) z ∙ q.ends in
     record { is = ap (λ (r : Scrubbed). r.report) e; leaves = q.stands.image ∙ ap (λ (r : Scrubbed). r.image) e }
 
-pub correct_region-found-requires : goal.correct_region-found-requires
-correct_region-found-requires c = c.fill_check_table.ensures
-
 pub is_some_and-written-requires : goal.is_some_and-written-requires
 is_some_and-written-requires c = λ x e. tt
 
