@@ -6,7 +6,6 @@ ghost use Rattle.put.specs.Put.{Put};
 ghost use Rattle.intel_hex.specs.Answers.{as_hex, answer_of, filled, done_length};
 ghost use Rattle.intel_hex.specs.Steps.{line_end, text_length};
 
-use crate::HexResult;
 use crate::record::put_record;
 use error::Refusal;
 use layout::MAX_IMAGE_BYTES;
@@ -91,16 +90,16 @@ fn text_length(n: usize) -> usize
 }
 
 // The text goes to the front of `text`, and the answer is its length; a refusal leaves every byte of `text` as it was.
-pub fn write(bytes: &[u8], text: &mut [u8]) -> HexResult
+pub fn write(bytes: &[u8], text: &mut [u8]) -> Result<usize, Refusal>
     ensures is { as_hex result ≡ answer_of (hex_write bytes.now (length text.old)) }
     ensures leaves { text.new ≡ filled (hex_write bytes.now (length text.old)) text.old }
     ensures fits { done_length result ≤ length text.new }
 {
     if bytes.len() > MAX_IMAGE_BYTES {
-        return HexResult::Refused(Refusal::TooLarge);
+        return Err(Refusal::TooLarge);
     }
     if text.len() < text_length(bytes.len()) {
-        return HexResult::Refused(Refusal::NoRoom);
+        return Err(Refusal::NoRoom);
     }
-    HexResult::Done(put_text(text, bytes))
+    Ok(put_text(text, bytes))
 }
