@@ -1,10 +1,8 @@
-use Rattle.std.proofs.Common.{◌≡◌, ◌+◌, ◌-◌, ◌*◌, ◌≤◌, length, drop}
+use Rattle.std.proofs.Common.{◌≡◌, ◌+◌, ◌*◌, ◌≤◌, drop}
 use Rattle.model.specs.Writer.{planes_words}
-use Rattle.plan.specs.Kept.{rows_of}
+use Rattle.plan.specs.Rows.{as_plan}
 use Rattle.plan.proofs.sizes.planes_words.Given as goal
 
-abbrev pub invariant-loop-i : goal.invariant-loop-i
-invariant-loop-i l = (l.i ≤ length l.rows) × (l.sum ≤ l.i * 4294967295) × (l.sum + planes_words (rows_of (drop l.i l.rows)) ≡ planes_words (rows_of l.rows))
-
-abbrev pub decreases-loop-i : goal.decreases-loop-i
-decreases-loop-i l = length l.rows - l.i
+-- `plan::sizes::planes_words` meets its contract. The invariant: the sum, and what the rows that are left add to it. Assumes nothing.
+abbrev pub invariant-loop-row : goal.invariant-loop-row
+invariant-loop-row l = (l.sum ≤ l.row-index * 4294967295) × (l.sum + planes_words (as_plan (drop l.row-index l.rows)) ≡ planes_words (as_plan l.rows))
