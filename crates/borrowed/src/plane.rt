@@ -3,7 +3,7 @@ ghost use Rattle.std.specs.Prelude.{◌≡◌};
 ghost use Rattle.model.specs.Scan.{slice_word, slice_scan};
 ghost use Rattle.ecc.specs.Answers.{as_word, as_report};
 
-use ecc::{EccReport, PlaneWord};
+use ecc::{EccReport, WordStatus};
 
 // Byte w of the plane belongs to word w of the data.
 #[derive(Clone, Copy)]
@@ -25,7 +25,7 @@ impl<'a> EccPlane<'a> {
     }
 
     // What a word and its byte say, or nothing where the index lies outside the data or the plane.
-    pub fn word(self, data: &[u8], index: usize) -> PlaneWord
+    pub fn word(self, data: &[u8], index: usize) -> Option<WordStatus>
         ensures { as_word result ≡ slice_word «data».now self.entry.parity.now index }
     {
         ecc::plane_word(self.parity, data, index)

@@ -1,7 +1,7 @@
 -- A codeword corrected, and a run of them. Assumes nothing.
 use mathlib.Core.Path.{◌≡◌, refl, sym, ap, ◌∙◌}
 use mathlib.Core.Bool.{Bool, true, false, cond}
-use mathlib.Core.List.{List, ◌++◌, append_assoc, append-nil}
+use mathlib.Core.List.{List, [], ◌∷◌, ◌++◌, append_assoc, append-nil}
 use Prim.Native.Nat.{ℕ, suc, ◌+◌, ◌-◌, ◌*◌, ◌≤◌, ◌<◌}
 use native.Mathlib.Nat.{zero-add}
 use native.Mathlib.Omega.{arith}
@@ -10,8 +10,10 @@ use lib.ListN.{length, take, drop, set, drop_of_length-le}
 use lib.Seq.{sets, sets-eq}
 use Rattle.model.specs.Bytes.{at, word_at, le_bytes}
 use Rattle.model.specs.Parity.{Class, clean, uncorrectable, check_of, decode, Outcome, clean_word, corrected_word, uncorrectable_word, outcome}
-use Rattle.model.specs.Scan.{Codeword, codewords_from, class_at}
-use Rattle.scan.specs.Tally.{Totals, counted, with_classes}
+use Rattle.model.specs.Scan.{Codeword, codewords_from, codewords_in, Visit, class_at}
+use Rattle.model.specs.Scan.{Report, report}
+use Rattle.model.specs.Steps.{plus, any_of}
+use Rattle.scan.specs.Tally.{report_on}
 use Rattle.scan.proofs.TallyLaw.{count_next, count_none}
 use Rattle.scan.proofs.WordLaw.{class_clean, class_uncorrectable, class_flipped}
 use Rattle.correcting.specs.Correct.{stored_as, correct_at, correct_all, met}
@@ -74,9 +76,9 @@ module _ (b : Bool) (n word check k : ℕ) (x : List ℕ) where
   unfolding correct_all codewords_from
   correct_done h = let e : n - k ≡ 0 = omega arith in rw e
 
-  pub met_next : (t : Totals) (y : List ℕ) (o : Outcome) → k < n → o ≡ outcome (word_at x (word + k)) (at x (check + k))
+  pub met_next : (t : Report) (y : List ℕ) (o : Outcome) → k < n → o ≡ outcome (word_at x (word + k)) (at x (check + k))
       → y ≡ correct_at b (record { word = word + k; check = check + k }) x
-      → with_classes (counted t o) (met b y (codewords_from (n - (k + 1)) (word + (k + 1)) (check + (k + 1)))) ≡ with_classes t (met b x (codewords_from (n - k) (word + k) (check + k)))
+      → plus (plus t (report_on o)) (report (met b y (codewords_from (n - (k + 1)) (word + (k + 1)) (check + (k + 1))))) ≡ plus t (report (met b x (codewords_from (n - k) (word + k) (check + k))))
   unfolding met codewords_from outcome class_at
   met_next t y o h e f =
       let m : n - k ≡ suc (n - (k + 1)) = omega arith in
@@ -86,6 +88,29 @@ module _ (b : Bool) (n word check k : ℕ) (x : List ℕ) where
       (count_next t (decode (word_at x (word + k)) (at x (check + k))) (word_at x (word + k))
       (met b (correct_at b (record { word = word + k; check = check + k }) x) (codewords_from (n - (k + 1)) (word + (k + 1)) (check + (k + 1)))))
 
-  pub met_done : (t : Totals) → n ≤ k → with_classes t (met b x (codewords_from (n - k) (word + k) (check + k))) ≡ t
+  pub met_done : (t : Report) → n ≤ k → plus t (report (met b x (codewords_from (n - k) (word + k) (check + k)))) ≡ t
   unfolding met codewords_from
   met_done t h = let e : n - k ≡ 0 = omega arith in rw e (count_none t)
+
+-- ---- the words of a region
+
+pub none_there : (vs : List Visit) → vs ≡ [] → (any_of vs ≡ false) × (codewords_in vs ≡ [])
+unfolding codewords_in
+none_there vs e = (rw e, rw e)
+
+pub none_corrected : (b : Bool) (x : List ℕ) (ps : List Codeword) → ps ≡ [] → x ≡ correct_all b ps x
+unfolding correct_all
+none_corrected b x ps e = rw e
+
+pub none_met : (b : Bool) (x : List ℕ) (ps : List Codeword) → ps ≡ [] → met b x ps ≡ []
+unfolding met
+none_met b x ps e = rw e
+
+length_met : (b : Bool) (x : List ℕ) (ps : List Codeword) → length (met b x ps) ≡ length ps
+unfolding met
+length_met b x [] = refl
+length_met b x (p ∷ ps) = ap suc (length_met b (correct_at b p x) ps)
+
+pub met_words : (b : Bool) (x : List ℕ) (ps : List Codeword) → (report (met b x ps)).words ≡ length ps
+unfolding report
+met_words b x ps = length_met b x ps

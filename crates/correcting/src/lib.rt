@@ -5,18 +5,18 @@
 ghost use Rattle.std.specs.Prelude.{◌≡◌, cond, ◌+◌, ◌*◌, ◌^◌, ◌<◌, ◌≤◌, length, set};
 ghost use Rattle.model.specs.Bytes.{at, le_bytes, word_at};
 ghost use Rattle.model.specs.Parity.{check_of, outcome};
-ghost use Rattle.model.specs.Scan.{codewords_in};
-ghost use Rattle.model.specs.Steps.{any_of};
-ghost use Rattle.ecc.specs.Answers.{as_outcome};
+ghost use Rattle.model.specs.Scan.{codewords_in, report};
+ghost use Rattle.ecc.specs.Answers.{as_outcome, as_report};
 ghost use Rattle.ecc.specs.CheckTable.{IsCheckTable};
 ghost use Rattle.scan.specs.Runs.{codewords_of, visits_at, Fits};
-ghost use Rattle.scan.specs.Tally.{as_totals, marked, with_classes, Room};
+ghost use Rattle.scan.specs.Answers.{as_scan};
+ghost use Rattle.scan.specs.Tally.{reported, or_zeros};
 ghost use Rattle.correcting.specs.Correct.{correct_at, correct_all, met};
 
-use ecc::{CheckTable, WordStatus, check_byte_with, decode_word_with};
+use ecc::{CheckTable, EccReport, WordStatus, check_byte_with, decode_word_with};
 use put::put_u64;
 use scalar::u64_or_zero;
-use scan::{ProtectedRun, Tally, add_word, protected_run_at, visit};
+use scan::{ProtectedRun, count_word, protected_run_at};
 use view::Header;
 
 // The eight bytes of a word, lent to be written.
@@ -70,44 +70,38 @@ fn correct_word(
     status
 }
 
-// Corrects the words of a run, ascending. Each is read as it then stands.
+// Corrects the words of a run, ascending, and counts them. Each is read as it then stands.
 fn correct_run(
     table: &CheckTable,
     bytes: &mut [u8],
     run: ProtectedRun,
     with_check: bool,
-    tally: Tally,
-) -> Tally
-    requires { Fits bytes.old run × Room run.words (as_totals tally).report × IsCheckTable table.now }
+) -> EccReport
+    requires { Fits bytes.old run × IsCheckTable table.now }
     ensures leaves { bytes.new ≡ correct_all with_check (codewords_of run) bytes.old }
-    ensures tells { as_totals result ≡ with_classes (as_totals tally) (met with_check bytes.old (codewords_of run)) }
-    ensures grows { (result.report.words ≤ tally.report.words + run.words) × Room 0 (as_totals result).report }
+    ensures tells { as_report result ≡ report (met with_check bytes.old (codewords_of run)) }
 {
-    let mut total = tally;
-    let mut k: usize = 0;
-    while k < run.words {
+    let mut report = EccReport::default();
+    for k in 0..run.words {
         let status = correct_word(table, bytes, run.word + k, run.check + k, with_check);
-        total = add_word(total, status);
-        k += 1;
+        report = count_word(report, status);
     }
-    total
+    report
 }
 
-// Corrects the protected run of entry i of the image as it stands, if it has one, and adds what was met to the tally.
+// Corrects the protected run of entry i of the image as it stands, and says what was met; nothing where the entry has no run.
 pub fn correct_region(
     table: &CheckTable,
     bytes: &mut [u8],
     header: Header,
     i: u16,
     with_check: bool,
-    tally: Tally,
-) -> Tally
-    requires { Room (2 ^ 32) (as_totals tally).report × IsCheckTable table.now }
+) -> Option<EccReport>
+    requires { IsCheckTable table.now }
     ensures leaves { bytes.new ≡ correct_all with_check (codewords_in (visits_at header.region_count bytes.old i)) bytes.old }
-    ensures tells { as_totals result ≡ with_classes (marked (as_totals tally) (any_of (visits_at header.region_count bytes.old i))) (met with_check bytes.old (codewords_in (visits_at header.region_count bytes.old i))) }
-    ensures grows { (result.report.words ≤ tally.report.words + 2 ^ 32) × Room 0 (as_totals result).report }
+    ensures tells { as_scan result ≡ reported (visits_at header.region_count bytes.old i) (met with_check bytes.old (codewords_in (visits_at header.region_count bytes.old i))) }
+    ensures few { (or_zeros (as_scan result)).words < 2 ^ 32 }
 {
-    let run = protected_run_at(bytes, header, i);
-    let visited = visit(tally, run.visited);
-    correct_run(table, bytes, run, with_check, visited)
+    let run = protected_run_at(bytes, header, i)?;
+    Some(correct_run(table, bytes, run, with_check))
 }

@@ -1,13 +1,11 @@
 -- No two answers fit one promise. (`as_outcome`, `as_word` and `as_report` tell every two apart: each is read back from what they make of it.) Assumes nothing.
 use mathlib.Core.Path.{◌≡◌, refl, sym, ap, ◌∙◌}
-use Rattle.std.specs.Prelude.{Option, None, Some}
+use Rattle.std.specs.Prelude.{Option, None, Some, option_map}
 use Rattle.model.specs.Parity.{Outcome, clean_word, corrected_word, uncorrectable_word}
 use Rattle.model.specs.Scan.{Report}
 use Rattle.model.proofs.OneAnswer.{OneAnswer, OneAnswerAnd, agree}
 use Rattle.ecc.specs.declared.WordStatus.{WordStatus}
 use Rattle.ecc.specs.declared.WordStatus.TheVariants.{Clean, Corrected, Uncorrectable}
-use Rattle.ecc.specs.declared.PlaneWord.{PlaneWord}
-use Rattle.ecc.specs.declared.PlaneWord.TheVariants.{Word, Nothing}
 use Rattle.ecc.specs.declared.EccReport.{EccReport}
 use Rattle.ecc.specs.Answers.{as_outcome, as_word, as_report}
 use Rattle.ecc.proofs.plane_kind_for.Reads as plane-kind-for
@@ -36,17 +34,12 @@ status_back Uncorrectable = refl
 pub one_status : (a b : WordStatus) → as_outcome a ≡ as_outcome b → a ≡ b
 one_status a b e = sym (status_back a) ∙ ap status e ∙ status_back b
 
-word : Option Outcome → PlaneWord
-word (Some o) = Word (status o)
-word None = Nothing
+word_back : (p : Option WordStatus) → option_map status (as_word p) ≡ p
+word_back (Some s) = ap Some (status_back s)
+word_back None = refl
 
-word_back : (p : PlaneWord) → word (as_word p) ≡ p
-unfolding word
-word_back (Word s) = ap Word (status_back s)
-word_back Nothing = refl
-
-pub one_word : (a b : PlaneWord) → as_word a ≡ as_word b → a ≡ b
-one_word a b e = sym (word_back a) ∙ ap word e ∙ word_back b
+pub one_word : (a b : Option WordStatus) → as_word a ≡ as_word b → a ≡ b
+one_word a b e = sym (word_back a) ∙ ap (option_map status) e ∙ word_back b
 
 pub one_report : (a b : EccReport) → as_report a ≡ as_report b → a ≡ b
 one_report a b e =

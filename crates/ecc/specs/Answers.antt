@@ -1,11 +1,9 @@
 -- The model's reading of each answer. (FORMAT 7)
-use Rattle.std.specs.Prelude.{ℕ, cond, ltb, Option, None, Some}
+use Rattle.std.specs.Prelude.{ℕ, cond, ltb, Option, None, Some, option_map}
 use Rattle.model.specs.Parity.{Class, flipped, uncorrectable, Outcome, clean_word, corrected_word, uncorrectable_word}
 use Rattle.model.specs.Scan.{Report}
 use Rattle.ecc.specs.declared.WordStatus.{WordStatus}
 use Rattle.ecc.specs.declared.WordStatus.TheVariants.{Clean, Corrected, Uncorrectable}
-use Rattle.ecc.specs.declared.PlaneWord.{PlaneWord}
-use Rattle.ecc.specs.declared.PlaneWord.TheVariants.{Word, Nothing}
 use Rattle.ecc.specs.declared.EccReport.{EccReport}
 
 abbrev pub as_outcome : WordStatus → Outcome
@@ -13,9 +11,8 @@ as_outcome (Clean w) = clean_word w
 as_outcome (Corrected w) = corrected_word w
 as_outcome Uncorrectable = uncorrectable_word
 
-abbrev pub as_word : PlaneWord → Option Outcome
-as_word (Word s) = Some (as_outcome s)
-as_word Nothing = None
+abbrev pub as_word : Option WordStatus → Option Outcome
+as_word = option_map as_outcome
 
 abbrev pub as_report : EccReport → Report
 as_report r = record { words = r.words; corrected = r.corrected; uncorrectable = r.uncorrectable }

@@ -51,7 +51,7 @@ pub fn check_byte(data: u64) -> u8
 }
 
 // What a word and its check byte say.
-#[derive(Clone, Copy)]
+#[derive(Clone, Copy, Debug, PartialEq, Eq)]
 pub enum WordStatus {
     Clean(u64),
     Corrected(u64),
@@ -110,7 +110,7 @@ pub fn decode_word(data: u64, check: u8) -> WordStatus
 }
 
 // What a scan found: words examined, words with a corrected fault, words that no single flipped bit explains.
-#[derive(Clone, Copy)]
+#[derive(Clone, Copy, Debug, Default, PartialEq, Eq)]
 pub struct EccReport {
     pub words: usize,
     pub corrected: usize,
@@ -133,13 +133,6 @@ impl EccReport {
     }
 }
 
-// One word of a plane's region, or nothing where the index lies outside the region or the plane.
-#[derive(Clone, Copy)]
-pub enum PlaneWord {
-    Word(WordStatus),
-    Nothing,
-}
-
 // How many words have their byte: the whole words of the data, or the bytes of the plane if those are fewer.
 fn plane_words(parity: &[u8], data: &[u8]) -> usize
     ensures { (result ≡ slice_words «data».now parity.now)
@@ -153,14 +146,14 @@ fn plane_words(parity: &[u8], data: &[u8]) -> usize
     }
 }
 
-// Word `index` of the data with byte `index` of its plane.
-pub fn plane_word(parity: &[u8], data: &[u8], index: usize) -> PlaneWord
+// Word `index` of the data with byte `index` of its plane; nothing where the index lies outside the data or the plane.
+pub fn plane_word(parity: &[u8], data: &[u8], index: usize) -> Option<WordStatus>
     ensures { as_word result ≡ slice_word «data».now parity.now index }
 {
     if index >= plane_words(parity, data) {
-        return PlaneWord::Nothing;
+        return None;
     }
-    PlaneWord::Word(decode_word(scalar::u64_or_zero(data, 8 * index), parity[index]))
+    Some(decode_word(scalar::u64_or_zero(data, 8 * index), parity[index]))
 }
 
 // 1 if the syndrome, which is not 0, is a column, so that the word is corrected; 0 if it is uncorrectable.

@@ -1,3 +1,4 @@
 pub mod FlagLaw
+pub mod SizeLaw
 pub mod RegionLaw
 pub mod OneAnswer

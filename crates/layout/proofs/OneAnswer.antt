@@ -1,9 +1,6 @@
--- No two answers fit one promise. (`as_model` tells every two sizes apart.) Assumes nothing.
-use mathlib.Core.Path.{◌≡◌, refl}
+-- No two answers fit one promise. Assumes nothing.
+use mathlib.Core.Path.{◌≡◌}
 use Rattle.model.proofs.OneAnswer.{OneAnswer, agree}
-use Rattle.layout.specs.declared.Size.{Size}
-use Rattle.layout.specs.declared.Size.TheVariants.{Of, Nothing}
-use Rattle.layout.specs.Sizes.{as_model}
 use Rattle.layout.proofs.Region.byte_offset.Reads as byte-offset
 use Rattle.layout.proofs.Region.byte_length.Reads as byte-length
 use Rattle.layout.proofs.Region.byte_end.Reads as byte-end
@@ -14,12 +11,6 @@ use Rattle.layout.proofs.Region.is_protected.Reads as is-protected
 use Rattle.layout.proofs.words_for.Reads as words-for
 use Rattle.layout.proofs.header_bytes.Reads as header_bytes_lem
 use Rattle.layout.proofs.header_length.Reads as header-length
-
-pub one_size : (a b : Size) → as_model a ≡ as_model b → a ≡ b
-one_size (Of m) (Of n) e = cc
-one_size (Of m) Nothing e = cc
-one_size Nothing (Of n) e = cc
-one_size Nothing Nothing e = refl
 
 -- ---- no two answers of a function fit its promise
 
@@ -45,10 +36,10 @@ pub one_answer_is_protected : OneAnswer is-protected.Learnt
 one_answer_is_protected κs a r r' s s' p q = agree p q
 
 pub one_answer_words_for : OneAnswer words-for.Learnt
-one_answer_words_for κs a r r' s s' p q = one_size r r' (agree p q)
+one_answer_words_for κs a r r' s s' p q = agree p q
 
 pub one_answer_header_bytes : OneAnswer header_bytes_lem.Learnt
-one_answer_header_bytes κs a r r' s s' p q = one_size r r' (agree p q)
+one_answer_header_bytes κs a r r' s s' p q = agree p q
 
 pub one_answer_header_length : OneAnswer header-length.Learnt
 one_answer_header_length κs a r r' s s' p q = agree p q

@@ -5,7 +5,6 @@ ghost use Rattle.std.specs.Prelude.{◌≡◌, ◌*◌};
 ghost use Rattle.model.specs.Layout.{end, is_encrypted, is_plane, has_ecc, header_length, words_for, header_bytes};
 ghost use Rattle.model.specs.Scan.{is_protected};
 ghost use Rattle.layout.specs.Regions.{as_entry};
-ghost use Rattle.layout.specs.Sizes.{as_model};
 
 // Bytes of a word. Every region and record is a whole number of words.
 pub const WORD: usize = 8;
@@ -43,10 +42,8 @@ pub const FLAG_OPTIONAL: u16 = 1 << 2;
 
 pub const FLAG_IS_ECC: u16 = 1 << 3;
 
-const LARGEST: usize = 0xFFFF_FFFF_FFFF_FFFF;
-
 // A directory entry, without its reserved field.
-#[derive(Clone, Copy)]
+#[derive(Clone, Copy, Debug, PartialEq, Eq)]
 pub struct Region {
     pub kind: u16,
     pub flags: u16,
@@ -102,31 +99,20 @@ impl Region {
     }
 }
 
-// A number, or nothing where a usize does not hold it.
-#[derive(Clone, Copy)]
-pub enum Size {
-    Of(usize),
-    Nothing,
+// Rounds a byte count up to a whole number of words; nothing where the sum does not fit.
+pub fn words_for(bytes: usize) -> Option<usize>
+    ensures { result ≡ words_for bytes }
+{
+    Some(bytes.checked_add(WORD - 1)? / WORD)
 }
 
-// Rounds a byte count up to a whole number of words.
-pub fn words_for(bytes: usize) -> Size
-    ensures { as_model result ≡ words_for bytes }
+// The length in bytes of all copies of the prologue and of the directory; nothing where it does not fit.
+pub fn header_bytes(region_count: usize) -> Option<usize>
+    ensures { result ≡ header_bytes region_count }
 {
-    if LARGEST - (WORD - 1) < bytes {
-        return Size::Nothing;
-    }
-    Size::Of((bytes + (WORD - 1)) / WORD)
-}
-
-// The length in bytes of all copies of the prologue and of the directory.
-pub fn header_bytes(region_count: usize) -> Size
-    ensures { as_model result ≡ header_bytes region_count }
-{
-    if (LARGEST - DIRECTORY_OFFSET) / (DIR_ENTRY_BYTES * COPIES) < region_count {
-        return Size::Nothing;
-    }
-    Size::Of(region_count * DIR_ENTRY_BYTES * COPIES + DIRECTORY_OFFSET)
+    region_count
+        .checked_mul(DIR_ENTRY_BYTES * COPIES)?
+        .checked_add(DIRECTORY_OFFSET)
 }
 
 // The header's length for a prologue's count of 16 bits, which always fits.

@@ -68,7 +68,7 @@ unfolding total
 total_append f [] ds = omega arith
 total_append f (c ∷ cs) ds = ap (λ (n : ℕ). f c + n) (total_append f cs ds) ∙ sym (add_assoc (f c) (total f cs) (total f ds))
 
-classes_append : (x : List ℕ) (ps qs : List Codeword) → classes_at x (ps ++ qs) ≡ classes_at x ps ++ classes_at x qs
+pub classes_append : (x : List ℕ) (ps qs : List Codeword) → classes_at x (ps ++ qs) ≡ classes_at x ps ++ classes_at x qs
 unfolding classes_at
 classes_append x [] qs = refl
 classes_append x (p ∷ ps) qs = ap (λ (l : List Class). class_at x p ∷ l) (classes_append x ps qs)

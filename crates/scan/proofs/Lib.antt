@@ -1,5 +1,5 @@
 pub mod TallyLaw
 pub mod RunLaw
 pub mod VisitLaw
-pub mod OneAnswer
 pub mod WordLaw
+pub mod OneAnswer

@@ -1,8 +1,9 @@
 -- The run of an entry, as its plane's place and its own bounds tell. Assumes nothing.
 use mathlib.Core.Path.{◌≡◌, refl, sym, ap, ap₂, ◌∙◌, subst}
 use mathlib.Core.Bool.{Bool, true, false, ◌&&◌, cond}
-use mathlib.Core.List.{List, []}
-use Rattle.std.specs.Prelude.{Option, None, Some}
+use mathlib.Core.List.{List, [], ◌∷◌}
+use Rattle.std.specs.Prelude.{Option, None, Some, Result, Ok, Err}
+use Rattle.std.specs.declared.ops.Range as std
 use Prim.Native.Nat.{ℕ, zero, suc, ◌+◌, ◌-◌, ◌*◌, ◌^◌, ◌≤◌, ◌<◌, min}
 use native.Mathlib.Nat.{min-le_left, min-le_right}
 use native.Mathlib.Omega.{arith}
@@ -20,80 +21,76 @@ use Rattle.error.specs.declared.Refusal.{Refusal}
 use Rattle.layout.specs.declared.Region.{Region}
 use Rattle.layout.specs.Regions.{as_entry, region_of}
 use Rattle.tables.specs.Answers.{as_place, as_span}
-use Rattle.tables.specs.declared.Place.{Place}
-use Rattle.tables.specs.declared.Place.TheVariants.{At, Nothing}
-use Rattle.tables.specs.declared.PartSpan.{PartSpan}
-use Rattle.tables.specs.declared.PartSpan.TheVariants.{Bytes, Refused}
 use Rattle.view.specs.Answers.{found_as}
-use Rattle.view.specs.declared.regions.RegionAt.{RegionAt}
-use Rattle.view.specs.declared.regions.RegionAt.TheVariants as is
 use Rattle.view.proofs.AnswersLaw.{found_some, found_none}
 use Rattle.scan.specs.declared.runs.ProtectedRun.{ProtectedRun}
-use Rattle.scan.specs.Runs.{visits_at, no_run, run_of, codewords_of, IsRun}
-
-pub empty_run : (x : List ℕ) (vs : List Visit) (q : ProtectedRun) → q ≡ no_run → vs ≡ [] → IsRun x vs q
-unfolding codewords_from codewords_in
-empty_run x vs q e f =
-    subst (IsRun x vs) (sym e) (record { is = rw f; codewords = rw f; visits = rw f; fits = record { words = omega arith; checks = omega arith }; few = omega arith })
+use Rattle.scan.specs.Runs.{visits_at, first_run, codewords_of, IsRunOf, IsRun}
 
 -- ---- a protected region
 
--- pl is the place of the plane of r's kind, and sp r's own span
-module _ (n : ℕ) (x : List ℕ) (r : Region) (pl : Place) (sp : PartSpan) (ep : as_place pl ≡ ecc_for n x r.kind) (es : as_span sp ≡ bytes_span (length x) (as_entry r)) where
-  pub no_plane_lem : pl ≡ Nothing → plane_of (length x) (entries_for n x) (as_entry r) ≡ None
-  unfolding plane_of ecc_for
-  no_plane_lem f = plane-law.no_place (length x) (as_entry r) (first_that (plane_for r.kind) (entries_for n x)) (ap as_place (sym f) ∙ ep)
+-- pl is the place of the plane of r's kind
+pub no_plane_lem : (n : ℕ) (x : List ℕ) (r : Region) (pl : Option (std.Range ℕ)) → as_place pl ≡ ecc_for n x r.kind → pl ≡ None
+    → plane_of (length x) (entries_for n x) (as_entry r) ≡ None
+unfolding plane_of ecc_for
+no_plane_lem n x r pl e f =
+    plane-law.no_place (length x) (as_entry r) (first_that (plane_for r.kind) (entries_for n x)) (ap as_place (sym f) ∙ e)
 
-  pub past_end : (s : Refusal) → sp ≡ Refused s → plane_of (length x) (entries_for n x) (as_entry r) ≡ None
+-- and sp r's own span
+module _ (n : ℕ) (x : List ℕ) (r : Region) (pl : Option (std.Range ℕ)) (sp : Result (std.Range ℕ) Refusal) (ep : as_place pl ≡ ecc_for n x r.kind) (es : as_span sp ≡ bytes_span (length x) (as_entry r)) where
+  pub past_end : (s : Refusal) → sp ≡ Err s → plane_of (length x) (entries_for n x) (as_entry r) ≡ None
   unfolding plane_of
   past_end s f =
       plane-law.region_outside (length x) (as_entry r) (first_that (plane_for r.kind) (entries_for n x))
       (plane-law.outside (length x) (as_entry r) _ _ (ap as_span (sym f) ∙ es))
 
-  module _ (a b c d : ℕ) (fp : pl ≡ At a b) (fs : sp ≡ Bytes c d) where
-    plane : plane-law.Plane (length x) (as_entry r) (first_that (plane_for r.kind) (entries_for n x)) a b
+  module _ (q s : std.Range ℕ) (fp : pl ≡ Some q) (fs : sp ≡ Ok s) where
+    plane : plane-law.Plane (length x) (as_entry r) (first_that (plane_for r.kind) (entries_for n x)) q.start q.end
     unfolding ecc_for
     plane =
-        plane-law.place_of (length x) (as_entry r) (first_that (plane_for r.kind) (entries_for n x)) a b
-        (plane-law.inside (length x) (as_entry r) c d (ap as_span (sym fs) ∙ es)).0 (ap as_place (sym fp) ∙ ep)
+        plane-law.place_of (length x) (as_entry r) (first_that (plane_for r.kind) (entries_for n x)) q.start q.end
+        (plane-law.inside (length x) (as_entry r) s.start s.end (ap as_span (sym fs) ∙ es)).0 (ap as_place (sym fp) ∙ ep)
 
     ends : 8 * (r.word_offset + r.word_length) ≤ length x
-    ends = (plane-law.inside (length x) (as_entry r) c d (ap as_span (sym fs) ∙ es)).0
+    ends = (plane-law.inside (length x) (as_entry r) s.start s.end (ap as_span (sym fs) ∙ es)).0
 
-    pub ordered : a ≤ b
+    pub ordered : q.start ≤ q.end
     ordered = let p = plane in omega (arith, p.first, p.past)
 
     is_plane_lem : plane_of (length x) (entries_for n x) (as_entry r) ≡ Some plane.plane
     unfolding plane_of
     is_plane_lem = plane.is
 
-    same_codewords_from : codewords_from (min r.word_length (b - a)) r.word_offset a ≡ words_of (record { region = as_entry r; plane = plane.plane })
+    same_codewords_from : codewords_from (min r.word_length (q.end - q.start)) r.word_offset q.start ≡ words_of (record { region = as_entry r; plane = plane.plane })
     unfolding words_of
     same_codewords_from =
         let p = plane in
-        let w : b - a ≡ 8 * p.plane.words = omega (arith, p.first, p.past) in
+        let w : q.end - q.start ≡ 8 * p.plane.words = omega (arith, p.first, p.past) in
         ap₂ (λ (m k : ℕ). codewords_from (min r.word_length m) r.word_offset k) w p.first
 
     -- as many words as region and plane both have
-    pub the_run : (m : ℕ) → m ≡ min r.word_length (b - a) → r.word_length < 2 ^ 32
-        → IsRun x (visit_with (as_entry r) (plane_of (length x) (entries_for n x) (as_entry r))) (record { visited = true; word = r.word_offset; check = a; words = m })
+    pub the_run : (m : ℕ) → m ≡ min r.word_length (q.end - q.start) → r.word_length < 2 ^ 32
+        → IsRunOf x (visit_with (as_entry r) (plane_of (length x) (entries_for n x) (as_entry r))) (record { word = r.word_offset; check = q.start; words = m })
     the_run m e l =
         let p = plane in
-        let g : m ≤ r.word_length = omega (arith, min-le_left r.word_length (b - a)) in
-        let h : m ≤ b - a = omega (arith, min-le_right r.word_length (b - a)) in
+        let g : m ≤ r.word_length = omega (arith, min-le_left r.word_length (q.end - q.start)) in
+        let h : m ≤ q.end - q.start = omega (arith, min-le_right r.word_length (q.end - q.start)) in
         let vs : visit_with (as_entry r) (plane_of (length x) (entries_for n x) (as_entry r)) ≡ visit_with (as_entry r) (Some p.plane) = ap (visit_with (as_entry r)) is_plane_lem in
-        let w : b - a ≡ 8 * p.plane.words = omega (arith, p.first, p.past) in
+        let w : q.end - q.start ≡ 8 * p.plane.words = omega (arith, p.first, p.past) in
         record {
-          is = ap₂ (λ (i j : ℕ). record { visited = true; word = r.word_offset; check = i; words = j }) p.first (e ∙ ap (min r.word_length) w) ∙ sym (ap run_of vs);
-          codewords = ap (λ (k : ℕ). codewords_from k r.word_offset a) e ∙ same_codewords_from ∙ sym (ap codewords_in vs ∙ codewords_one (record { region = as_entry r; plane = p.plane }));
-          visits = sym (ap any_of vs);
+          is = ap₂ (λ (i j : ℕ). Some (record { word = r.word_offset; check = i; words = j })) p.first (e ∙ ap (min r.word_length) w) ∙ sym (ap first_run vs);
+          codewords = ap (λ (k : ℕ). codewords_from k r.word_offset q.start) e ∙ same_codewords_from ∙ sym (ap codewords_in vs ∙ codewords_one (record { region = as_entry r; plane = p.plane }));
+          visits = ap any_of vs;
           fits = record { words = omega (arith, ends); checks = omega (arith, p.first, p.past, p.fits) };
           few = omega arith;
         }
 
 -- the same words, mark and run
 abbrev Same : List Visit → List Visit → Type 0
-Same vs ws = (codewords_in vs ≡ codewords_in ws) × (any_of vs ≡ any_of ws) × (run_of vs ≡ run_of ws)
+Same vs ws = (codewords_in vs ≡ codewords_in ws) × (any_of vs ≡ any_of ws) × (first_run vs ≡ first_run ws)
+
+none_there : (vs : List Visit) → first_run vs ≡ None → vs ≡ []
+none_there [] e = refl
+none_there (v ∷ vs) e = cc
 
 -- the reserved field is not read
 same_visit : (len : ℕ) (all : List Entry) (e : Entry) → Same (visit_of len all (as_entry (region_of e))) (visit_of len all e)
@@ -111,34 +108,33 @@ same_visit len all e = go (is_protected e) (first_that (plane_for e.kind) all)
 
 -- ---- a region that is handed out for entry i
 
-module _ (n : ℕ) (x : List ℕ) (i : ℕ) (r : RegionAt) (f : r ≡ found_as (region_at n x i)) where
-  pub not_there : r ≡ is.Nothing → (q : ProtectedRun) → q ≡ no_run → IsRun x (visits_at n x i) q
-  not_there g q e = empty_run x (visits_at n x i) q e (ap (visit_at (length x) (entries_for n x)) (found_none (region_at n x i) (sym g ∙ f)))
+module _ (n : ℕ) (x : List ℕ) (i : ℕ) (r : Option Region) (f : r ≡ found_as (region_at n x i)) where
+  pub not_there : r ≡ None → visits_at n x i ≡ []
+  not_there g = ap (visit_at (length x) (entries_for n x)) (found_none (region_at n x i) (sym g ∙ f))
 
-  module _ (p : Region) (g : r ≡ is.Found p) where
-    at_region : (q : ProtectedRun) → IsRun x (visit_of (length x) (entries_for n x) (as_entry p)) q → IsRun x (visits_at n x i) q
-    at_region q k =
+  module _ (p : Region) (g : r ≡ Some p) where
+    same_there : Same (visit_of (length x) (entries_for n x) (as_entry p)) (visits_at n x i)
+    same_there =
         let e = found_some (region_at n x i) p (sym g ∙ f) in
         let s = same_visit (length x) (entries_for n x) e.0 in
         let vs : visit_of (length x) (entries_for n x) (as_entry p) ≡ visit_of (length x) (entries_for n x) (as_entry (region_of e.0)) = ap (λ (z : Region). visit_of (length x) (entries_for n x) (as_entry z)) e.2 in
         let there : visits_at n x i ≡ visit_of (length x) (entries_for n x) e.0 = ap (visit_at (length x) (entries_for n x)) e.1 in
-        record {
-          is = k.is ∙ ap run_of vs ∙ s.2 ∙ sym (ap run_of there);
-          codewords = k.codewords ∙ ap codewords_in vs ∙ s.0 ∙ sym (ap codewords_in there);
-          visits = k.visits ∙ ap any_of vs ∙ s.1 ∙ sym (ap any_of there);
-          fits = k.fits;
-          few = k.few;
-        }
+        (ap codewords_in vs ∙ s.0 ∙ sym (ap codewords_in there), ap any_of vs ∙ s.1 ∙ sym (ap any_of there), ap first_run vs ∙ s.2 ∙ sym (ap first_run there))
 
-    pub unprotected : (t : Bool) → t ≡ is_protected (as_entry p) → t ≡ false → (q : ProtectedRun) → q ≡ no_run → IsRun x (visits_at n x i) q
-    unprotected t e h q z =
-        at_region q (empty_run x (visit_of (length x) (entries_for n x) (as_entry p)) q z (visit_plain (length x) (entries_for n x) (as_entry p) (sym e ∙ h)))
+    at_region : (o : Option ProtectedRun) → IsRun x (visit_of (length x) (entries_for n x) (as_entry p)) o → IsRun x (visits_at n x i) o
+    at_region None k = none_there (visits_at n x i) (sym same_there.2 ∙ ap first_run k)
+    at_region (Some q) k =
+        let s = same_there in
+        record { is = k.is ∙ s.2; codewords = k.codewords ∙ s.0; visits = sym s.1 ∙ k.visits; fits = k.fits; few = k.few }
+
+    pub unprotected : (t : Bool) → t ≡ is_protected (as_entry p) → t ≡ false → visits_at n x i ≡ []
+    unprotected t e h = at_region None (visit_plain (length x) (entries_for n x) (as_entry p) (sym e ∙ h))
 
     pub protected : (t : Bool) → t ≡ is_protected (as_entry p) → t ≡ true
-        → (q : ProtectedRun) → IsRun x (visit_with (as_entry p) (plane_of (length x) (entries_for n x) (as_entry p))) q → IsRun x (visits_at n x i) q
-    protected t e h q k =
-        at_region q
-        (subst (λ (vs : List Visit). IsRun x vs q) (sym (visit_protected (length x) (entries_for n x) (as_entry p) (sym e ∙ h))) k)
+        → (o : Option ProtectedRun) → IsRun x (visit_with (as_entry p) (plane_of (length x) (entries_for n x) (as_entry p))) o → IsRun x (visits_at n x i) o
+    protected t e h o k =
+        at_region o
+        (subst (λ (vs : List Visit). IsRun x vs o) (sym (visit_protected (length x) (entries_for n x) (as_entry p) (sym e ∙ h))) k)
 
 -- ---- the words of a run: how many
 
@@ -147,6 +143,9 @@ unfolding codewords_from
 length_from zero q c = refl
 length_from (suc m) q c = ap suc (length_from m (suc q) (suc c))
 
+pub run_length : (r : ProtectedRun) → length (codewords_of r) ≡ r.words
+run_length r = length_from r.words r.word r.check
+
 pub run_words : (x : List ℕ) (r : ProtectedRun) → (report (classes_at x (codewords_of r))).words ≡ r.words
 unfolding report
-run_words x r = length_classes x (codewords_of r) ∙ length_from r.words r.word r.check
+run_words x r = length_classes x (codewords_of r) ∙ run_length r

@@ -1,15 +1,17 @@
 -- The tally: each counter as words are added to it, and sums that fit. Nothing else goes by single counters. Assumes nothing.
 use mathlib.Core.Path.{◌≡◌, refl, sym, ap, ◌∙◌, subst}
-use mathlib.Core.Bool.{Bool}
-use mathlib.Core.List.{List, [], ◌∷◌, ◌++◌}
+use mathlib.Core.Bool.{Bool, true, false}
+use Rattle.std.specs.Prelude.{Option, None, Some}
+use mathlib.Core.List.{List, [], ◌∷◌, ◌++◌, append-nil}
 use Prim.Native.Nat.{ℕ, suc, ◌+◌, ◌≤◌}
 use native.Mathlib.Omega.{arith}
 use lib.ListN.{length-append}
 use Rattle.model.specs.Parity.{Class, clean, flipped, uncorrectable, Outcome, clean_word, corrected_word, uncorrectable_word, outcome_as}
-use Rattle.model.specs.Scan.{Report, total, is_corrected, is_uncorrectable, report}
+use Rattle.model.specs.Scan.{Report, Visit, total, is_corrected, is_uncorrectable, report}
 use Rattle.model.proofs.ScanLaw.{plus_none, plus_assoc, report_none, total_append}
 use Rattle.model.specs.Steps.{plus, no_report}
-use Rattle.scan.specs.Tally.{Totals, no_totals, tallied, with_report, report_on, counted, with_classes, Bounded, Room}
+use Rattle.model.specs.Bytes.{given}
+use Rattle.scan.specs.Tally.{reported, together, or_zeros, report_on, Bounded, Room}
 
 same_report : {a b c a' b' c' : ℕ} → a ≡ a' → b ≡ b' → c ≡ c'
     → ◌≡◌ {A = Report} (record { words = a; corrected = b; uncorrectable = c }) (record { words = a'; corrected = b'; uncorrectable = c' })
@@ -76,29 +78,37 @@ pub room_report : (r : Report) (ks : List Class) → Room (report ks).words r �
 room_report r ks k =
     record { words = omega (arith, k.words); counts = bounded_plus r (report ks) k.counts (bounded_report ks) }
 
--- ---- the tally
+-- ---- a run of words, counted one by one
 
-module _ (t : Totals) where
-  pub count_next : (k : Class) (w : ℕ) (ks : List Class) → with_classes (counted t (outcome_as k w)) ks ≡ with_classes t (k ∷ ks)
-  count_next k w ks =
-      ap (λ (r : Report). record { any = t.any; report = r }) (plus_assoc t.report (report_on (outcome_as k w)) (report ks)) ∙ ap (with_report t) (report_front k w ks)
+module _ (r : Report) where
+  pub count_next : (k : Class) (w : ℕ) (ks : List Class) → plus (plus r (report_on (outcome_as k w))) (report ks) ≡ plus r (report (k ∷ ks))
+  count_next k w ks = plus_assoc r (report_on (outcome_as k w)) (report ks) ∙ ap (plus r) (report_front k w ks)
 
-  pub count_none : with_classes t [] ≡ t
-  count_none = ap (with_report t) report_none ∙ ap (λ (r : Report). record { any = t.any; report = r }) (plus_none t.report)
+  pub count_none : plus r (report []) ≡ r
+  count_none = ap (plus r) report_none ∙ plus_none r
 
-  pub counted_words : (o : Outcome) → (counted t o).report.words ≡ t.report.words + 1
-  counted_words o = ap (λ (n : ℕ). t.report.words + n) (words_on o)
+  pub counted_words : (o : Outcome) → (plus r (report_on o)).words ≡ r.words + 1
+  counted_words o = ap (λ (n : ℕ). r.words + n) (words_on o)
 
-  pub room_next : (m : ℕ) (o : Outcome) → Room (suc m) t.report → Room m (counted t o).report
-  room_next m o r =
-      record { words = omega (arith, r.words, words_on o); counts = bounded_plus t.report (report_on o) r.counts (bounded_on o) }
+  pub room_next : (m : ℕ) (o : Outcome) → Room (suc m) r → Room m (plus r (report_on o))
+  room_next m o h =
+      record { words = omega (arith, h.words, words_on o); counts = bounded_plus r (report_on o) h.counts (bounded_on o) }
 
-pub counted_tally : (v : Bool) (ks : List Class) (k : Class) (w : ℕ) → counted (tallied v ks) (outcome_as k w) ≡ tallied v (k ∷ ks)
-counted_tally v ks k w =
-    ap (λ (r : Report). record { any = v; report = r }) (plus_comm (report ks) (report_on (outcome_as k w)) ∙ report_front k w ks)
+-- ---- reports together
 
-pub tally_append : (v : Bool) (ks js : List Class) → with_classes (tallied v ks) js ≡ tallied v (ks ++ js)
-tally_append v ks js = ap (λ (r : Report). record { any = v; report = r }) (report_both ks js)
+pub bounded_given : (t : Bool) (ks : List Class) → Bounded (or_zeros (given t (report ks)))
+bounded_given true ks = bounded_report ks
+bounded_given false ks = bounded_none
 
-pub room_start : (t : Totals) → t ≡ no_totals → Room 0 t.report
-room_start t e = subst (λ (u : Totals). Room 0 u.report) (sym e) (record { words = omega arith; counts = bounded_none })
+pub together_words : (a b : Option Report) → (or_zeros (together a b)).words ≡ (or_zeros a).words + (or_zeros b).words
+together_words None b = omega arith
+together_words (Some a) None = omega arith
+together_words (Some a) (Some b) = refl
+
+-- those of visits that follow one another; what is not visited has no classes
+pub together_reported : (vs ws : List Visit) (ks js : List Class) → (vs ≡ [] → ks ≡ []) → (ws ≡ [] → js ≡ [])
+    → together (reported vs ks) (reported ws js) ≡ reported (vs ++ ws) (ks ++ js)
+together_reported [] ws ks js f g = ap (λ (ls : List Class). reported ws (ls ++ js)) (sym (f refl))
+together_reported (v ∷ vs) [] ks js f g =
+    ap (λ (ls : List Class). Some (report ls)) (sym (append-nil ks) ∙ ap (λ (ls : List Class). ks ++ ls) (sym (g refl)))
+together_reported (v ∷ vs) (w ∷ ws) ks js f g = ap Some (report_both ks js)

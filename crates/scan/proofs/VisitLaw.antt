@@ -1,64 +1,76 @@
--- The totals, visit by visit. Assumes nothing.
-use mathlib.Core.Path.{◌≡◌, sym, ap, ap₂, ◌∙◌}
-use mathlib.Core.Bool.{Bool, or-false, or_assoc}
+-- The report, visit by visit. Assumes nothing.
+use mathlib.Core.Path.{◌≡◌, refl, sym, ap, ap₂, ◌∙◌, subst}
+use mathlib.Core.Bool.{Bool}
 use mathlib.Core.List.{List, [], ◌++◌}
-use Prim.Native.Nat.{ℕ, suc, ◌+◌, ◌≤◌}
-use native.Mathlib.Numerals.{add-one}
+use Rattle.std.specs.Prelude.{Option, None, Some}
+use Prim.Native.Nat.{ℕ, suc, ◌≤◌}
 use native.Mathlib.Omega.{arith}
-use lib.ListN.{length, drop, drop_of_length-le}
+use lib.ListN.{length, take}
+use lib.Seq.{take_all}
 use Rattle.model.specs.Bytes.{given}
 use Rattle.model.specs.Refusals.{fine}
 use Rattle.model.specs.Layout.{Entry, count}
 use Rattle.model.specs.Parse.{parse_verdict}
 use Rattle.model.specs.Views.{entries_for, nth}
-use Rattle.model.specs.Scan.{report, Visit, visits_over, Codeword, codewords_in, classes_at, scan_of, scan_in, visits, scan}
+use Rattle.model.specs.Scan.{Report, report, Visit, visits_over, Codeword, codewords_in, classes_at, scan_of, scan_in, visits, scan}
 use Rattle.model.specs.Scrub.{visit_at}
-use Rattle.model.proofs.ScanLaw.{plus_none, none_plus, plus_assoc, report_append, report_none, any_append, codewords_append, scan_given, visits_from}
-use Rattle.model.specs.Steps.{any_of}
+use Rattle.model.proofs.ScanLaw.{classes_append, codewords_append, scan_given, visits_to}
 use Rattle.view.proofs.EntriesForLaw.{length_entries_for, entries_for_is}
 use Rattle.scan.specs.declared.runs.ProtectedRun.{ProtectedRun}
-use Rattle.scan.specs.Runs.{codewords_of, IsRun}
-use Rattle.scan.specs.Tally.{Totals, no_totals, marked, with_classes, with_visits, reported_by}
+use Rattle.scan.specs.Runs.{codewords_of, IsRunOf}
+use Rattle.scan.specs.Tally.{reported, together, or_zeros, Bounded}
+use Rattle.scan.proofs.TallyLaw.{together_reported, bounded_given}
 
--- ---- some visits more
+pub bounded_scan : (x : List ℕ) (vs : List Visit) → Bounded (or_zeros (scan_of x vs))
+bounded_scan x vs = subst (λ (o : Option Report). Bounded (or_zeros o)) (sym (scan_given x vs)) (bounded_given _ (classes_at x (codewords_in vs)))
 
-none_more : (x : List ℕ) (t : Totals) → with_visits x [] t ≡ t
-unfolding with_visits codewords_in classes_at
-none_more x t = rw (or-false t.any, report_none, plus_none t.report)
+-- what is not visited has no classes
+pub none_met : (x : List ℕ) (vs : List Visit) → vs ≡ [] → classes_at x (codewords_in vs) ≡ []
+unfolding codewords_in classes_at
+none_met x vs e = rw e
 
-more_append : (x : List ℕ) (vs ws : List Visit) (t : Totals) → with_visits x (vs ++ ws) t ≡ with_visits x ws (with_visits x vs t)
-unfolding with_visits
-more_append x vs ws t =
-    let ps = codewords_in vs in
-    let qs = codewords_in ws in
-    rw (any_append vs ws, or_assoc t.any (any_of vs) (any_of ws), codewords_append vs ws, report_append x ps qs, plus_assoc t.report (report (classes_at x ps)) (report (classes_at x qs)))
+pub scan_append : (x : List ℕ) (vs ws : List Visit) → scan_of x (vs ++ ws) ≡ together (scan_of x vs) (scan_of x ws)
+scan_append x vs ws =
+    scan_given x (vs ++ ws)
+    ∙ ap (reported (vs ++ ws)) (ap (classes_at x) (codewords_append vs ws) ∙ classes_append x (codewords_in vs) (codewords_in ws))
+    ∙ sym (together_reported vs ws (classes_at x (codewords_in vs)) (classes_at x (codewords_in ws)) (none_met x vs) (none_met x ws))
+    ∙ sym (ap₂ together (scan_given x vs) (scan_given x ws))
+
+pub no_scan : (x : List ℕ) (vs : List Visit) → vs ≡ [] → scan_of x vs ≡ None
+unfolding scan_of
+no_scan x vs e = rw e
 
 -- a run is its visits
-pub run_more : (x : List ℕ) (vs : List Visit) (r : ProtectedRun) (t : Totals) → IsRun x vs r
-    → with_classes (marked t r.visited) (classes_at x (codewords_of r)) ≡ with_visits x vs t
-unfolding with_visits
-run_more x vs r t k = ap₂ (λ (v : Bool) (ps : List Codeword). with_classes (marked t v) (classes_at x ps)) k.visits k.codewords
+pub scan_run_is : (x : List ℕ) (vs : List Visit) (r : ProtectedRun) → IsRunOf x vs r → Some (report (classes_at x (codewords_of r))) ≡ scan_of x vs
+scan_run_is x vs r k =
+    ap₂ (λ (t : Bool) (ps : List Codeword). given t (report (classes_at x ps))) (sym k.visits) k.codewords ∙ sym (scan_given x vs)
 
 -- ---- all entries
 
--- entry i, and those behind it
-pub more_next : (x : List ℕ) (all es : List Entry) (i : ℕ) (t : Totals)
-    → with_visits x (visits_over (length x) all (drop i es)) t ≡ with_visits x (visits_over (length x) all (drop (i + 1) es)) (with_visits x (visit_at (length x) all (nth i es)) t)
-more_next x all es i t =
-    ap (λ (vs : List Visit). with_visits x vs t) (visits_from (length x) all es i)
-    ∙ more_append x (visit_at (length x) all (nth i es)) (visits_over (length x) all (drop (suc i) es)) t
-    ∙ ap (λ (k : ℕ). with_visits x (visits_over (length x) all (drop k es)) (with_visits x (visit_at (length x) all (nth i es)) t)) (sym (add-one i))
+-- what a scan of the first i entries says
+unfoldable pub scanned_to : List ℕ → ℕ → ℕ → Option Report
+scanned_to x n i = scan_of x (visits_over (length x) (entries_for n x) (take i (entries_for n x)))
 
-pub more_done : (x : List ℕ) (n i : ℕ) (t : Totals) → n ≤ i → with_visits x (visits_over (length x) (entries_for n x) (drop i (entries_for n x))) t ≡ t
-unfolding visits_over
-more_done x n i t h = let l : length (entries_for n x) ≤ i = omega (arith, length_entries_for n x) in rw (drop_of_length-le (entries_for n x) l) (none_more x t)
+pub none_scanned : (x : List ℕ) (n : ℕ) → scanned_to x n 0 ≡ None
+unfolding scanned_to visits_over scan_of
+none_scanned x n = refl
 
--- ---- the answer
+pub scanned_bounded : (x : List ℕ) (n i : ℕ) → Bounded (or_zeros (scanned_to x n i))
+unfolding scanned_to
+scanned_bounded x n i = bounded_scan x (visits_over (length x) (entries_for n x) (take i (entries_for n x)))
 
-pub all_said : (x : List ℕ) (vs : List Visit) (t : Totals) → t ≡ with_visits x vs no_totals → reported_by t ≡ scan_of x vs
-unfolding with_visits
-all_said x vs t e =
-    ap reported_by e ∙ ap (given (any_of vs)) (none_plus (report (classes_at x (codewords_in vs)))) ∙ sym (scan_given x vs)
+pub scanned_next : (x : List ℕ) (n i : ℕ)
+    → together (scanned_to x n i) (scan_of x (visit_at (length x) (entries_for n x) (nth i (entries_for n x)))) ≡ scanned_to x n (suc i)
+unfolding scanned_to
+scanned_next x n i =
+    let es = entries_for n x in
+    sym (ap (scan_of x) (visits_to (length x) es es i) ∙ scan_append x (visits_over (length x) es (take i es)) (visit_at (length x) es (nth i es)))
+
+pub scanned_all : (x : List ℕ) (n i : ℕ) → n ≤ i → scanned_to x n i ≡ scan_in n x
+unfolding scanned_to scan_in
+scanned_all x n i h =
+    ap (λ (es : List Entry). scan_of x (visits_over (length x) (entries_for n x) es))
+    (take_all i (entries_for n x) (omega (arith, length_entries_for n x)))
 
 -- of an image that parse accepts, the entries are its directory
 pub scan_is : (x : List ℕ) → parse_verdict x ≡ fine → scan_in (count x) x ≡ scan x

@@ -1,10 +1,8 @@
 -- The model's reading of each answer. (FORMAT 7)
-use Rattle.std.specs.Prelude.{Option, None, Some}
+use Rattle.std.specs.Prelude.{Option, option_map}
 use Rattle.model.specs.Scan.{Report}
+use Rattle.ecc.specs.declared.EccReport.{EccReport}
 use Rattle.ecc.specs.Answers.{as_report}
-use Rattle.scan.specs.declared.ScanResult.{ScanResult}
-use Rattle.scan.specs.declared.ScanResult.TheVariants as is
 
-abbrev pub as_scan : ScanResult → Option Report
-as_scan (is.Report r) = Some (as_report r)
-as_scan is.Nothing = None
+abbrev pub as_scan : Option EccReport → Option Report
+as_scan = option_map as_report

@@ -1,55 +1,30 @@
--- Steps of code, for the contracts of building blocks that other crates call; no statement of the demands speaks of them. What a scan, scrub or mend has counted so far. (FORMAT 7, 8, 10)
-use Rattle.std.specs.Prelude.{Bool, false, ◌||◌, List, ℕ, ◌+◌, ◌^◌, ◌≤◌, Option}
+-- Steps of code, for the contracts of building blocks that other crates call; no statement of the demands speaks of them. What a scan, scrub or mend has counted so far: a report, and nothing before the first region that is visited. (FORMAT 7, 8, 10)
+use Rattle.std.specs.Prelude.{List, ℕ, ◌+◌, ◌^◌, ◌≤◌, Option, None, Some}
 use Rattle.model.specs.Bytes.{given}
 use Rattle.model.specs.Parity.{Class, Outcome, clean_word, corrected_word, uncorrectable_word}
-use Rattle.model.specs.Scan.{Report, report, Visit, codewords_in, classes_at}
+use Rattle.model.specs.Scan.{Report, report, Visit}
 use Rattle.model.specs.Steps.{plus, no_report, any_of}
-use Rattle.ecc.specs.Answers.{as_report}
-use Rattle.scan.specs.declared.tally.Tally.{Tally}
 
--- the model's report so far, and whether any region was visited
-pub record Totals : Type 0 where
-  pub any : Bool
-  pub report : Report
+-- the report on the classes in which the words of some visits were met; nothing without a visit
+abbrev pub reported : List Visit → List Class → Option Report
+reported vs ks = given (any_of vs) (report ks)
 
-abbrev pub as_totals : Tally → Totals
-as_totals t = record { any = t.any; report = as_report t.report }
+-- two reports together; nothing where neither is there
+abbrev pub together : Option Report → Option Report → Option Report
+together None b = b
+together (Some a) None = Some a
+together (Some a) (Some b) = Some (plus a b)
 
-abbrev pub no_totals : Totals
-no_totals = record { any = false; report = no_report }
-
--- the totals of a mark and of the classes that were met
-abbrev pub tallied : Bool → List Class → Totals
-tallied v ks = record { any = v; report = report ks }
-
--- the totals, with whether a further region was visited
-abbrev pub marked : Totals → Bool → Totals
-marked t v = record { any = t.any || v; report = t.report }
-
--- the totals, with the counts of a report added
-abbrev pub with_report : Totals → Report → Totals
-with_report t r = record { any = t.any; report = plus t.report r }
+-- the counts, zeros where there is no report
+abbrev pub or_zeros : Option Report → Report
+or_zeros None = no_report
+or_zeros (Some r) = r
 
 -- one word, by what became of it
 abbrev pub report_on : Outcome → Report
 report_on (clean_word w) = record { words = 1; corrected = 0; uncorrectable = 0 }
 report_on (corrected_word w) = record { words = 1; corrected = 1; uncorrectable = 0 }
 report_on uncorrectable_word = record { words = 1; corrected = 0; uncorrectable = 1 }
-
--- the totals, with one word added
-abbrev pub counted : Totals → Outcome → Totals
-counted t o = with_report t (report_on o)
-
--- the totals, with a word added for each class
-abbrev pub with_classes : Totals → List Class → Totals
-with_classes t ks = with_report t (report ks)
-
--- the totals, with the words of some visits of x added
-unfoldable pub with_visits : List ℕ → List Visit → Totals → Totals
-with_visits x vs t = with_classes (marked t (any_of vs)) (classes_at x (codewords_in vs))
-
-abbrev pub reported_by : Totals → Option Report
-reported_by t = given t.any t.report
 
 -- ---- sums that fit
 

@@ -4,29 +4,21 @@
 mod runs;
 mod tally;
 
-ghost use Rattle.std.specs.Prelude.{◌≡◌, ◌+◌};
-ghost use Rattle.model.specs.Scan.{classes_at, report, scan_region, scan_in};
+ghost use Rattle.std.specs.Prelude.{◌≡◌, ◌^◌, ◌<◌};
+ghost use Rattle.model.specs.Scan.{classes_at, report, scan_of, scan_region, scan_in};
 ghost use Rattle.ecc.specs.Answers.{as_report};
 ghost use Rattle.ecc.specs.CheckTable.{IsCheckTable};
 ghost use Rattle.layout.specs.Regions.{as_entry};
 ghost use Rattle.scan.specs.Answers.{as_scan};
-ghost use Rattle.scan.specs.Runs.{codewords_of, Fits};
-ghost use Rattle.scan.specs.Tally.{as_totals, marked, with_classes, Room};
+ghost use Rattle.scan.specs.Runs.{codewords_of, visits_at, Fits};
+ghost use Rattle.scan.specs.Tally.{or_zeros};
 
 use ecc::{CheckTable, EMPTY_TABLE, EccReport, fill_check_table, plane_scan_with};
 use layout::Region;
 use runs::run_with_plane;
 pub use runs::{ProtectedRun, protected_run_at};
-use tally::add_report;
-pub use tally::{Tally, add_word, empty_tally, scan_result, visit};
+pub use tally::{count_word, together};
 use view::Header;
-
-// A report, or nothing where no region was visited, which is not a clean scan.
-#[derive(Clone, Copy)]
-pub enum ScanResult {
-    Report(EccReport),
-    Nothing,
-}
 
 fn scan_run(table: &CheckTable, bytes: &[u8], run: ProtectedRun) -> EccReport
     requires { Fits bytes.now run × IsCheckTable table.now }
@@ -39,39 +31,36 @@ fn scan_run(table: &CheckTable, bytes: &[u8], run: ProtectedRun) -> EccReport
     plane_scan_with(table, &bytes[check..check_end], &bytes[start..end])
 }
 
-// Adds the words of a run to the tally.
-fn add_run(table: &CheckTable, bytes: &[u8], run: ProtectedRun, tally: Tally) -> Tally
-    requires { Fits bytes.now run × IsCheckTable table.now × Room run.words (as_totals tally).report }
-    ensures is { as_totals result ≡ with_classes (marked (as_totals tally) run.visited) (classes_at bytes.now (codewords_of run)) }
-    ensures grows { (result.report.words ≡ tally.report.words + run.words) × Room 0 (as_totals result).report }
+// The report on entry i, if it is protected and has a plane.
+fn scan_entry(table: &CheckTable, bytes: &[u8], header: Header, i: u16) -> Option<EccReport>
+    requires { IsCheckTable table.now }
+    ensures is { as_scan result ≡ scan_of bytes.now (visits_at header.region_count bytes.now i) }
+    ensures few { (or_zeros (as_scan result)).words < 2 ^ 32 }
 {
-    let report = scan_run(table, bytes, run);
-    add_report(visit(tally, run.visited), report)
+    let run = protected_run_at(bytes, header, i)?;
+    Some(scan_run(table, bytes, run))
 }
 
 // One region against its plane; flag 2 is not asked for. Nothing without a plane.
-pub fn verify_region(bytes: &[u8], header: Header, region: Region) -> ScanResult
+pub fn verify_region(bytes: &[u8], header: Header, region: Region) -> Option<EccReport>
     ensures { as_scan result ≡ scan_region header.region_count bytes.now (as_entry region) }
 {
     let mut table = EMPTY_TABLE;
     fill_check_table(&mut table);
-    let run = run_with_plane(bytes, header, region);
-    scan_result(add_run(&table, bytes, run, empty_tally()))
+    let run = run_with_plane(bytes, header, region)?;
+    Some(scan_run(&table, bytes, run))
 }
 
-// Every protected region against its plane, summed; nothing where no region is visited.
-pub fn verify_all(bytes: &[u8], header: Header) -> ScanResult
+// Every protected region against its plane, summed; nothing where no region is visited, which is not a clean scan.
+pub fn verify_all(bytes: &[u8], header: Header) -> Option<EccReport>
     ensures { as_scan result ≡ scan_in header.region_count bytes.now }
 {
-    let n = header.region_count;
     let mut table = EMPTY_TABLE;
     fill_check_table(&mut table);
-    let mut tally = empty_tally();
-    let mut i: u16 = 0;
-    while i < n {
-        let run = protected_run_at(bytes, header, i);
-        tally = add_run(&table, bytes, run, tally);
-        i += 1;
+    let mut total = None;
+    for i in 0..header.region_count {
+        let found = scan_entry(&table, bytes, header, i);
+        total = together(total, found);
     }
-    scan_result(tally)
+    total
 }

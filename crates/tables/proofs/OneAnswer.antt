@@ -3,15 +3,14 @@ use mathlib.Core.Path.{◌≡◌, refl, ap, ap₂}
 use mathlib.Core.List.{List}
 use Prim.Native.Nat.{ℕ}
 use denote.Ref.{Bor}
-use Rattle.model.specs.Views.{Range, range}
+use Rattle.std.specs.Prelude.{Option, Some, None, Result, Ok, Err}
+use Rattle.std.specs.declared.ops.Range as std
+use Rattle.model.specs.Views.{Range}
+use Rattle.error.specs.declared.Refusal.{Refusal}
 use Rattle.model.proofs.OneAnswer.{One, OneAnswer, agree}
 use Rattle.error.specs.Refused.{as_verdict}
 use Rattle.error.proofs.OneAnswer.{one_refusal}
-use Rattle.tables.specs.declared.PartSpan.{PartSpan}
-use Rattle.tables.specs.declared.PartSpan.TheVariants.{Bytes, Refused}
-use Rattle.tables.specs.declared.Place.{Place}
-use Rattle.tables.specs.declared.Place.TheVariants.{At, Nothing}
-use Rattle.tables.specs.Answers.{as_span, as_place}
+use Rattle.tables.specs.Answers.{as_range, as_span, as_place}
 use Rattle.tables.specs.Parts.{PartAt}
 use Rattle.tables.proofs.region_span.Reads as region-span
 use Rattle.tables.proofs.region_bytes.Reads as region-bytes
@@ -25,17 +24,20 @@ use Rattle.tables.proofs.range_is_forward.Reads as range-is-forward
 use Rattle.tables.proofs.pool_place.Reads as pool-place
 use Rattle.tables.proofs.pool_bytes.Reads as pool_bytes
 
-pub one_span : (a b : PartSpan) → as_span a ≡ as_span b → a ≡ b
-one_span (Bytes s t) (Bytes u v) e = let f : range s t ≡ range u v = cc in ap (λ (r : Range). Bytes r.first r.past) f
-one_span (Bytes s t) (Refused r) e = cc
-one_span (Refused r) (Bytes u v) e = cc
-one_span (Refused r) (Refused q) e = let v : as_verdict r ≡ as_verdict q = cc in ap Refused (one_refusal r q v)
+pub one_range : (r s : std.Range ℕ) → as_range r ≡ as_range s → r ≡ s
+one_range r s e = ap (λ (p : Range). record { start = p.first; end = p.past }) e
 
-pub one_place : (a b : Place) → as_place a ≡ as_place b → a ≡ b
-one_place (At s t) (At u v) e = let f : range s t ≡ range u v = cc in ap (λ (r : Range). At r.first r.past) f
-one_place (At s t) Nothing e = cc
-one_place Nothing (At u v) e = cc
-one_place Nothing Nothing e = refl
+pub one_span : (a b : Result (std.Range ℕ) Refusal) → as_span a ≡ as_span b → a ≡ b
+one_span (Ok r) (Ok s) e = let f : as_range r ≡ as_range s = cc in ap Ok (one_range r s f)
+one_span (Ok r) (Err q) e = cc
+one_span (Err q) (Ok r) e = cc
+one_span (Err r) (Err q) e = let v : as_verdict r ≡ as_verdict q = cc in ap Err (one_refusal r q v)
+
+pub one_place : (a b : Option (std.Range ℕ)) → as_place a ≡ as_place b → a ≡ b
+one_place (Some r) (Some s) e = let f : as_range r ≡ as_range s = cc in ap Some (one_range r s f)
+one_place (Some r) None e = cc
+one_place None (Some s) e = cc
+one_place None None e = refl
 
 -- two references to one slice: the same pointer, and the same bytes from there on, so the same machine value. (The third part of a reference, the ghost name under which the logic tracks its bytes, is new at each cut, and no contract can fix it.)
 abbrev pub SameSlice : Bor (List ℕ) → Bor (List ℕ) → Type 0

@@ -1,93 +1,69 @@
 // Parts of an image, record tables and pools, after view.rs: plain functions on slices and numbers. (FORMAT 6)
 #![tactic(auto)]
 
-ghost use Rattle.std.specs.Prelude.{◌≡◌, [], ℕ, ◌+◌, ◌*◌, ◌≤◌, length};
+ghost use Rattle.std.specs.Prelude.{◌≡◌, ◌≤◌, length, IfSome};
 ghost use Rattle.model.specs.Views.{bytes_span, table_span, is_table, record_count, record_range, range_is_forward, pool_range};
 ghost use Rattle.layout.specs.Regions.{as_entry};
 ghost use Rattle.tables.specs.Answers.{as_span, as_place};
-ghost use Rattle.tables.specs.Parts.{PartAt, VeryPartOf, VeryPartIn};
+ghost use Rattle.tables.specs.Parts.{VeryPartOf, VeryPartIn};
 
 use error::Refusal;
 use layout::Region;
+use std::ops::Range;
 
-// Where a part of the bytes starts and ends, or why there is none.
-#[derive(Clone, Copy)]
-pub enum PartSpan {
-    Bytes { start: usize, end: usize },
-    Refused(Refusal),
-}
-
-// Where a part of the bytes starts and ends, or nothing.
-#[derive(Clone, Copy)]
-pub enum Place {
-    At { start: usize, end: usize },
-    Nothing,
-}
-
-// The empty part that starts at an offset; the one at 0 stands for nothing.
-fn empty_at(bytes: &[u8], at: usize) -> &[u8]
-    requires { at ≤ length bytes.now }
-    ensures { PartAt bytes.entry result at [] }
+// The very bytes of a place; where there is none, the empty slice at their front.
+fn part_at(bytes: &[u8], place: Option<Range<usize>>) -> &[u8]
+    requires { IfSome place (λ r. (r.start ≤ r.end) × (r.end ≤ length bytes.now)) }
+    ensures { VeryPartIn bytes.entry result (as_place place) }
 {
-    &bytes[at..at]
+    match place {
+        Some(range) => &bytes[range],
+        None => &bytes[..0],
+    }
 }
 
 // A region's place in an image of len bytes.
-pub fn region_span(len: usize, region: Region) -> PartSpan
+pub fn region_span(len: usize, region: Region) -> Result<Range<usize>, Refusal>
     ensures { as_span result ≡ bytes_span len (as_entry region) }
 {
     let end = region.byte_end();
     if len < end {
-        return PartSpan::Refused(Refusal::RegionOutOfBounds { index: 0 });
+        return Err(Refusal::RegionOutOfBounds { index: 0 });
     }
-    PartSpan::Bytes {
-        start: region.byte_offset(),
-        end,
-    }
+    Ok(region.byte_offset()..end)
 }
 
 // The very bytes of a region; none if refused.
 pub fn region_bytes(bytes: &[u8], region: Region) -> &[u8]
     ensures { VeryPartOf bytes.entry result (bytes_span (length bytes.now) (as_entry region)) }
 {
-    let span = region_span(bytes.len(), region);
-    match span {
-        PartSpan::Bytes { start, end } => &bytes[start..end],
-        PartSpan::Refused(_) => empty_at(bytes, 0),
-    }
+    part_at(bytes, region_span(bytes.len(), region).ok())
 }
 
 // Where the bytes of a region start and end that is a table of records of stride bytes, or why it is no such table.
-pub fn records_span(len: usize, region: Region, stride: usize) -> PartSpan
+pub fn records_span(len: usize, region: Region, stride: usize) -> Result<Range<usize>, Refusal>
     ensures { as_span result ≡ table_span len (as_entry region) stride }
 {
     if stride == 0 {
-        return PartSpan::Refused(Refusal::BadRecordStride);
+        return Err(Refusal::BadRecordStride);
     }
     if stride % 8 != 0 {
-        return PartSpan::Refused(Refusal::BadRecordStride);
+        return Err(Refusal::BadRecordStride);
     }
     let end = region.byte_end();
     if len < end {
-        return PartSpan::Refused(Refusal::RegionOutOfBounds { index: 0 });
+        return Err(Refusal::RegionOutOfBounds { index: 0 });
     }
     if region.byte_length() % stride != 0 {
-        return PartSpan::Refused(Refusal::BadRecordStride);
+        return Err(Refusal::BadRecordStride);
     }
-    PartSpan::Bytes {
-        start: region.byte_offset(),
-        end,
-    }
+    Ok(region.byte_offset()..end)
 }
 
 pub fn records_bytes(bytes: &[u8], region: Region, stride: usize) -> &[u8]
     ensures { VeryPartOf bytes.entry result (table_span (length bytes.now) (as_entry region) stride) }
 {
-    let span = records_span(bytes.len(), region, stride);
-    match span {
-        PartSpan::Bytes { start, end } => &bytes[start..end],
-        PartSpan::Refused(_) => empty_at(bytes, 0),
-    }
+    part_at(bytes, records_span(bytes.len(), region, stride).ok())
 }
 
 // Whether bytes in hand are a table of records of stride bytes.
@@ -111,20 +87,17 @@ pub fn record_count(bytes: &[u8], stride: usize) -> usize
 }
 
 // Where record index of a table of len bytes starts and ends, or nothing.
-pub fn record_place(len: usize, stride: usize, index: usize) -> Place
+pub fn record_place(len: usize, stride: usize, index: usize) -> Option<Range<usize>>
     ensures { as_place result ≡ record_range len stride index }
 {
     if stride == 0 {
-        return Place::Nothing;
+        return None;
     }
     if index < len / stride {
         let start = index * stride;
-        Place::At {
-            start,
-            end: start + stride,
-        }
+        Some(start..start + stride)
     } else {
-        Place::Nothing
+        None
     }
 }
 
@@ -132,11 +105,7 @@ pub fn record_place(len: usize, stride: usize, index: usize) -> Place
 pub fn record_bytes(bytes: &[u8], stride: usize, index: usize) -> &[u8]
     ensures { VeryPartIn bytes.entry result (record_range (length bytes.now) stride index) }
 {
-    let place = record_place(bytes.len(), stride, index);
-    match place {
-        Place::At { start, end } => &bytes[start..end],
-        Place::Nothing => empty_at(bytes, 0),
-    }
+    part_at(bytes, record_place(bytes.len(), stride, index))
 }
 
 // A range of records that lies behind record at, and inside the table.
@@ -150,24 +119,16 @@ pub fn range_is_forward(bytes: &[u8], stride: usize, at: usize, first: u32, coun
 }
 
 // Where an offset and a length lie in a pool of len bytes, or nothing where they end past it.
-pub fn pool_place(len: usize, offset: u32, size: u32) -> Place
+pub fn pool_place(len: usize, offset: u32, size: u32) -> Option<Range<usize>>
     ensures { as_place result ≡ pool_range len offset size }
 {
     let start = offset as usize;
     let end = start + size as usize;
-    if end <= len {
-        Place::At { start, end }
-    } else {
-        Place::Nothing
-    }
+    if end <= len { Some(start..end) } else { None }
 }
 
 pub fn pool_bytes(bytes: &[u8], offset: u32, size: u32) -> &[u8]
     ensures { VeryPartIn bytes.entry result (pool_range (length bytes.now) offset size) }
 {
-    let place = pool_place(bytes.len(), offset, size);
-    match place {
-        Place::At { start, end } => &bytes[start..end],
-        Place::Nothing => empty_at(bytes, 0),
-    }
+    part_at(bytes, pool_place(bytes.len(), offset, size))
 }

@@ -12,9 +12,8 @@ use Rattle.error.specs.Refused.{number_of, detail_of}
 use Rattle.layout.specs.declared.Region.{Region}
 use Rattle.layout.specs.Regions.{region_of}
 use Rattle.view.specs.declared.header.Header as view
-use Rattle.view.specs.declared.header.ParseResult.{ParseResult}
-use Rattle.view.specs.declared.header.ParseResult.TheVariants.{Parsed, Refused}
-use Rattle.view.specs.declared.regions.RegionAt.TheVariants.{Found, Nothing}
+use Rattle.std.specs.Prelude.{Result, Ok, Err}
+use Rattle.std.specs.Prelude.{None, Some}
 use Rattle.model.specs.Refusals.{Verdict, fine, refuse}
 use Rattle.view.specs.Answers.{fine_with, refused_with, with_count, found_as, as_parsed}
 
@@ -38,11 +37,11 @@ with_refused v k d m e = ap (λ (w : Verdict). with_count w m) (sym e)
 
 -- ---- a region that is found stands for an entry
 
-pub found_some : (o : Option Entry) (p : Region) → Found p ≡ found_as o → (e : Entry) × (o ≡ Some e) × (p ≡ region_of e)
+pub found_some : (o : Option Entry) (p : Region) → Some p ≡ found_as o → (e : Entry) × (o ≡ Some e) × (p ≡ region_of e)
 found_some None p f = let z : ◌≡◌ {A = ℕ} 0 1 = cc in absurd (omega arith)
 found_some (Some e) p f = (e, refl, cc)
 
-pub found_none : (o : Option Entry) → Nothing ≡ found_as o → o ≡ None
+pub found_none : (o : Option Entry) → None ≡ found_as o → o ≡ None
 found_none None f = refl
 found_none (Some e) f = cc
 
@@ -56,15 +55,15 @@ refused_as : (v : Verdict) (n d : ℕ) (g : Header) → refused n d ≡ parsed_a
 refused_as fine n d g e = cc
 refused_as (refuse n' d') n d g e = cc
 
-module _ (x : List ℕ) (r : ParseResult) (e : as_parsed r ≡ model.parse x) where
-  pub parsed_fine : (h : view.Header) → r ≡ Parsed h → parse_verdict x ≡ fine
+module _ (x : List ℕ) (r : Result view.Header Refusal) (e : as_parsed r ≡ model.parse x) where
+  pub parsed_fine : (h : view.Header) → r ≡ Ok h → parse_verdict x ≡ fine
   unfolding model.parse
   parsed_fine h f = (parsed_as_lem (parse_verdict x) _ (header_of x) (ap as_parsed (sym f) ∙ e)).0
 
-  pub parsed_count : (h : view.Header) → r ≡ Parsed h → h.region_count ≡ count x
+  pub parsed_count : (h : view.Header) → r ≡ Ok h → h.region_count ≡ count x
   unfolding model.parse header_of
   parsed_count h f = ap (λ (g : Header). g.regions) (parsed_as_lem (parse_verdict x) _ (header_of x) (ap as_parsed (sym f) ∙ e)).1
 
-  pub parsed_refused : (s : Refusal) → r ≡ Refused s → parse_verdict x ≡ refuse (number_of s) (detail_of s)
+  pub parsed_refused : (s : Refusal) → r ≡ Err s → parse_verdict x ≡ refuse (number_of s) (detail_of s)
   unfolding model.parse
   parsed_refused s f = refused_as (parse_verdict x) (number_of s) (detail_of s) (header_of x) (ap as_parsed (sym f) ∙ e)

@@ -1,14 +1,14 @@
--- No two answers fit one promise. (`as_parsed` tells every two of `parse` apart. `region_at` and `find_region` answer what `found_as` gives, and `ecc_for` a Place: `one_place` of crate tables.) Assumes nothing.
+-- No two answers fit one promise. (`as_parsed` tells every two of `parse` apart. `region_at` and `find_region` answer what `found_as` gives, and `ecc_for` a range: `one_place` of crate tables.) Assumes nothing.
 use mathlib.Core.Path.{◌≡◌, ap}
 use Rattle.model.specs.Parse.{Parsed}
 use Rattle.model.specs.Parse as model
 use Rattle.model.proofs.OneAnswer.{OneAnswer, agree}
+use Rattle.error.specs.declared.Refusal.{Refusal}
 use Rattle.error.specs.Refused.{as_verdict}
 use Rattle.error.proofs.OneAnswer.{one_refusal}
 use Rattle.tables.proofs.OneAnswer.{one_place}
 use Rattle.view.specs.declared.header.Header.{Header}
-use Rattle.view.specs.declared.header.ParseResult.{ParseResult}
-use Rattle.view.specs.declared.header.ParseResult.TheVariants as is
+use Rattle.std.specs.Prelude.{Result, Ok, Err}
 use Rattle.view.specs.Answers.{as_header, as_parsed}
 use Rattle.view.proofs.header.parse.Reads as parse
 use Rattle.view.proofs.header.Header.needs_scrub.Reads as needs-scrub
@@ -28,11 +28,11 @@ coded h =
 pub one_header : (a b : Header) → as_header a ≡ as_header b → a ≡ b
 one_header a b e = ap coded e
 
-pub one_parse : (a b : ParseResult) → as_parsed a ≡ as_parsed b → a ≡ b
-one_parse (is.Parsed g) (is.Parsed h) e = let f : as_header g ≡ as_header h = cc in ap is.Parsed (one_header g h f)
-one_parse (is.Parsed g) (is.Refused r) e = cc
-one_parse (is.Refused r) (is.Parsed h) e = cc
-one_parse (is.Refused r) (is.Refused q) e = let v : as_verdict r ≡ as_verdict q = cc in ap is.Refused (one_refusal r q v)
+pub one_parse : (a b : Result Header Refusal) → as_parsed a ≡ as_parsed b → a ≡ b
+one_parse (Ok g) (Ok h) e = let f : as_header g ≡ as_header h = cc in ap Ok (one_header g h f)
+one_parse (Ok g) (Err r) e = cc
+one_parse (Err r) (Ok h) e = cc
+one_parse (Err r) (Err q) e = let v : as_verdict r ≡ as_verdict q = cc in ap Err (one_refusal r q v)
 
 -- ---- no two answers of a function fit its promise
 

@@ -8,14 +8,14 @@ ghost use Rattle.view.specs.Answers.{as_counted, with_count, as_parsed};
 ghost use Rattle.view.specs.Kinds.{elem, kinds_of};
 
 use crate::vote::{copies_differ, entry_u16, entry_u32, voted_checksum, voted_u16, voted_u32};
-use error::{Check, Refusal};
+use error::Refusal;
 use layout::{
     BOM, DIR_ENTRY_BYTES, DIRECTORY_OFFSET, FORMAT_VERSION, MAGIC, MAX_REGIONS, PROLOGUE_BYTES,
     WORD, header_length,
 };
 
 // An accepted image's number of regions, and which header copies disagreed with their vote.
-#[derive(Clone, Copy)]
+#[derive(Clone, Copy, Debug, PartialEq, Eq)]
 pub struct Header {
     pub region_count: u16,
     pub prologue_disagreed: bool,
@@ -31,83 +31,58 @@ impl Header {
     }
 }
 
-#[derive(Clone, Copy)]
-pub enum ParseResult {
-    Parsed(Header),
-    Refused(Refusal),
-}
-
-// What a run of checks says, with the number of regions where nothing is refused.
-#[derive(Clone, Copy)]
-pub(crate) enum Counted {
-    Count(u16),
-    Refuse(Refusal),
-}
-
-pub fn parse(bytes: &[u8]) -> ParseResult
+pub fn parse(bytes: &[u8]) -> Result<Header, Refusal>
     ensures { as_parsed result ≡ model.parse bytes.now }
 {
-    let checked = check_header(bytes);
-    match checked {
-        Counted::Refuse(refusal) => ParseResult::Refused(refusal),
-        Counted::Count(n) => ParseResult::Parsed(Header {
-            region_count: n,
-            prologue_disagreed: copies_differ(bytes, 0, PROLOGUE_BYTES),
-            directory_disagreed: copies_differ(
-                bytes,
-                DIRECTORY_OFFSET,
-                DIR_ENTRY_BYTES * (n as usize),
-            ),
-        }),
-    }
+    let n = check_header(bytes)?;
+    Ok(Header {
+        region_count: n,
+        prologue_disagreed: copies_differ(bytes, 0, PROLOGUE_BYTES),
+        directory_disagreed: copies_differ(bytes, DIRECTORY_OFFSET, DIR_ENTRY_BYTES * (n as usize)),
+    })
 }
 
-// Parse without asking which header copies differ.
-fn check_header(bytes: &[u8]) -> Counted
+// The number of regions, without asking which header copies differ.
+fn check_header(bytes: &[u8]) -> Result<u16, Refusal>
     ensures { as_counted result ≡ with_count (model.parse_verdict bytes.now) (count bytes.now) }
 {
     if bytes.len() < DIRECTORY_OFFSET {
-        return Counted::Refuse(Refusal::Truncated);
+        return Err(Refusal::Truncated);
     }
-    let checked = check_prologue(bytes);
-    let Counted::Count(n) = checked else {
-        return checked;
-    };
+    let n = check_prologue(bytes)?;
     if bytes.len() < header_length(n) {
-        return Counted::Refuse(Refusal::Truncated);
+        return Err(Refusal::Truncated);
     }
-    match check_directory(bytes, n as usize) {
-        Check::Fine => Counted::Count(n),
-        Check::Refuse(refusal) => Counted::Refuse(refusal),
-    }
+    check_directory(bytes, n as usize)?;
+    Ok(n)
 }
 
 // The voted prologue's fields; the count that it gives is at most 1024.
-fn check_prologue(bytes: &[u8]) -> Counted
+fn check_prologue(bytes: &[u8]) -> Result<u16, Refusal>
     requires { 48 ≤ length bytes.now }
     ensures { as_counted result ≡ with_count (model.prologue_verdict (prologue bytes.now)) (count bytes.now) }
 {
     if voted_u32(bytes, 0, PROLOGUE_BYTES, 0) != MAGIC {
-        return Counted::Refuse(Refusal::BadMagic);
+        return Err(Refusal::BadMagic);
     }
     if voted_u16(bytes, 0, PROLOGUE_BYTES, 4) != BOM {
-        return Counted::Refuse(Refusal::ForeignEndian);
+        return Err(Refusal::ForeignEndian);
     }
     let version = voted_u16(bytes, 0, PROLOGUE_BYTES, 6);
     if version != FORMAT_VERSION {
-        return Counted::Refuse(Refusal::UnsupportedVersion { found: version });
+        return Err(Refusal::UnsupportedVersion { found: version });
     }
     if voted_u32(bytes, 0, PROLOGUE_BYTES, 12) != voted_checksum(bytes) {
-        return Counted::Refuse(Refusal::BadPrologueChecksum);
+        return Err(Refusal::BadPrologueChecksum);
     }
     let n = voted_u16(bytes, 0, PROLOGUE_BYTES, 8);
     if n as usize > MAX_REGIONS {
-        return Counted::Refuse(Refusal::TooManyRegions { found: n as usize });
+        return Err(Refusal::TooManyRegions { found: n as usize });
     }
-    Counted::Count(n)
+    Ok(n)
 }
 
-fn check_directory(bytes: &[u8], n: usize) -> Check
+fn check_directory(bytes: &[u8], n: usize) -> Result<(), Refusal>
     requires { (header_length n ≤ length bytes.now) × (n ≤ 1024) }
     ensures { as_check result ≡ model.entries_verdict (length bytes.now) 0 (directory_of n bytes.now) }
 {
@@ -116,7 +91,7 @@ fn check_directory(bytes: &[u8], n: usize) -> Check
 }
 
 // Checks the entries; kinds is scratch space for their kinds.
-fn check_entries_in(bytes: &[u8], n: usize, kinds: &mut [u16]) -> Check
+fn check_entries_in(bytes: &[u8], n: usize, kinds: &mut [u16]) -> Result<(), Refusal>
     requires { (header_length n ≤ length bytes.now) × (n ≤ 1024) × (length kinds.old ≡ n) }
     ensures { as_check result ≡ model.entries_verdict (length bytes.now) 0 (directory_of n bytes.now) }
 {
@@ -137,23 +112,23 @@ fn vote_kinds(bytes: &[u8], n: usize, kinds: &mut [u16])
 }
 
 // For each entry in turn: its end past the image, then a later entry with its kind.
-fn check_entries(bytes: &[u8], n: usize, kinds: &[u16]) -> Check
+fn check_entries(bytes: &[u8], n: usize, kinds: &[u16]) -> Result<(), Refusal>
     requires { (header_length n ≤ length bytes.now) × (n ≤ 1024) × (length kinds.now ≡ n) × (kinds.now ≡ kinds_of (directory_of n bytes.now)) }
     ensures { as_check result ≡ model.entries_verdict (length bytes.now) 0 (directory_of n bytes.now) }
 {
     let mut i: usize = 0;
     while i < n {
         if bytes.len() < voted_end(bytes, n, i) {
-            return Check::Refuse(Refusal::RegionOutOfBounds { index: i as u16 });
+            return Err(Refusal::RegionOutOfBounds { index: i as u16 });
         }
         let kind = kinds[i];
         let next = i + 1;
         if is_among(kind, &kinds[next..]) {
-            return Check::Refuse(Refusal::DuplicateRegion { kind });
+            return Err(Refusal::DuplicateRegion { kind });
         }
         i += 1;
     }
-    Check::Fine
+    Ok(())
 }
 
 // The byte after entry i's last.

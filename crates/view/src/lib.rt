@@ -5,5 +5,5 @@ mod header;
 mod regions;
 mod vote;
 
-pub use header::{Header, ParseResult, parse};
-pub use regions::{RegionAt, ecc_for, find_region, region_at};
+pub use header::{Header, parse};
+pub use regions::{ecc_for, find_region, region_at};

@@ -8,45 +8,39 @@ ghost use Rattle.view.specs.Answers.{found_as};
 use super::header::Header;
 use crate::vote::{entry_u16, voted_region};
 use layout::{FLAG_IS_ECC, Region, header_length};
-use tables::Place;
-
-#[derive(Clone, Copy)]
-pub enum RegionAt {
-    Found(Region),
-    Nothing,
-}
+use std::ops::Range;
 
 // Directory entry index.
-pub fn region_at(bytes: &[u8], header: Header, index: u16) -> RegionAt
+pub fn region_at(bytes: &[u8], header: Header, index: u16) -> Option<Region>
     ensures { result ≡ found_as (region_at header.region_count bytes.now index) }
 {
     let n = header.region_count as usize;
     let i = index as usize;
     if bytes.len() < header_length(header.region_count) {
-        return RegionAt::Nothing;
+        return None;
     }
     if n <= i {
-        return RegionAt::Nothing;
+        return None;
     }
-    RegionAt::Found(voted_region(bytes, n, i))
+    Some(voted_region(bytes, n, i))
 }
 
 // The first region of this kind; of bytes that parse accepted it is the only one.
-pub fn find_region(bytes: &[u8], header: Header, kind: u16) -> RegionAt
+pub fn find_region(bytes: &[u8], header: Header, kind: u16) -> Option<Region>
     ensures { result ≡ found_as (find_region header.region_count bytes.now kind) }
 {
     let n = header.region_count as usize;
     if bytes.len() < header_length(header.region_count) {
-        return RegionAt::Nothing;
+        return None;
     }
     let mut i: usize = 0;
     while i < n {
         if entry_u16(bytes, n, i, 0) == kind {
-            return RegionAt::Found(voted_region(bytes, n, i));
+            return Some(voted_region(bytes, n, i));
         }
         i += 1;
     }
-    RegionAt::Nothing
+    None
 }
 
 // An entry with these flags and this covers field is a plane of the kind.
@@ -60,7 +54,7 @@ fn covers_kind(flags: u16, covers: u16, kind: u16) -> bool
 }
 
 // The first plane in directory order that covers this kind.
-pub(crate) fn plane_of(bytes: &[u8], n: usize, kind: u16) -> RegionAt
+pub(crate) fn plane_of(bytes: &[u8], n: usize, kind: u16) -> Option<Region>
     requires { header_length n ≤ length bytes.now }
     ensures { result ≡ found_as (first_that (plane_for kind) (directory_of n bytes.now)) }
 {
@@ -68,32 +62,25 @@ pub(crate) fn plane_of(bytes: &[u8], n: usize, kind: u16) -> RegionAt
     while i < n {
         let flags = entry_u16(bytes, n, i, 2);
         if covers_kind(flags, entry_u16(bytes, n, i, 12), kind) {
-            return RegionAt::Found(voted_region(bytes, n, i));
+            return Some(voted_region(bytes, n, i));
         }
         i += 1;
     }
-    RegionAt::Nothing
+    None
 }
 
 // Where the plane of a region stands, if its bytes are all there.
-pub fn ecc_for(bytes: &[u8], header: Header, region: Region) -> Place
+pub fn ecc_for(bytes: &[u8], header: Header, region: Region) -> Option<Range<usize>>
     ensures { as_place result ≡ ecc_for header.region_count bytes.now region.kind }
 {
     let n = header.region_count as usize;
     if bytes.len() < header_length(header.region_count) {
-        return Place::Nothing;
+        return None;
     }
-    match plane_of(bytes, n, region.kind) {
-        RegionAt::Found(plane) => {
-            let end = plane.byte_end();
-            if bytes.len() < end {
-                return Place::Nothing;
-            }
-            Place::At {
-                start: plane.byte_offset(),
-                end,
-            }
-        }
-        RegionAt::Nothing => Place::Nothing,
+    let plane = plane_of(bytes, n, region.kind)?;
+    let end = plane.byte_end();
+    if bytes.len() < end {
+        return None;
     }
+    Some(plane.byte_offset()..end)
 }

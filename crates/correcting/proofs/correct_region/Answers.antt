@@ -1,35 +1,44 @@
-use mathlib.Core.Path.{◌≡◌, sym, ap, ap₂, ◌∙◌, subst}
+use mathlib.Core.Path.{sym, ap, ap₂, ◌∙◌}
+use mathlib.Core.Bool.{Bool}
 use mathlib.Core.List.{List}
-use Prim.Native.Nat.{◌^◌}
 use native.Mathlib.Omega.{arith}
-use Rattle.model.specs.Scan.{Codeword}
-use Rattle.scan.specs.Tally.{Totals, as_totals, marked, with_classes, Room}
-use Rattle.scan.proofs.TallyLaw.{room_less}
+use Rattle.std.specs.Prelude.{Some}
+use Rattle.model.specs.Bytes.{given}
+use Rattle.model.specs.Scan.{Codeword, codewords_in, Report, report}
+use Rattle.scan.specs.Runs.{visits_at, codewords_of}
+use Rattle.scan.specs.Answers.{as_scan}
+use Rattle.scan.proofs.RunLaw.{run_length}
 use Rattle.correcting.specs.Correct.{correct_all, met}
+use Rattle.correcting.proofs.CorrectLaw.{none_there, none_corrected, met_words}
 use Rattle.correcting.proofs.correct_region.Goals as goal
 
 -- `correcting::correct_region` meets its contract. Assumes nothing.
+pub returns-in_err-run : goal.returns-in_err-run
+returns-in_err-run c =
+    let g = c.args in
+    let x = g.bytes.now in
+    let vs = visits_at g.header.region_count x g.i in
+    let e = none_there vs c.in_err-run.ensures in
+    let s = ap as_scan c.from_residual.ensures in
+    record {
+      leaves = none_corrected g.with_check x (codewords_in vs) e.1;
+      tells = s ∙ sym (rw e.0);
+      few = rw s (omega arith);
+    }
+
 pub correct_run-requires : goal.correct_run-requires
-correct_run-requires c =
-    let r = c.protected_run_at-run in (
-      r.ensures.fits,
-      subst (λ (t : Totals). Room r.result.words t.report) (sym c.visit-visited.ensures) (room_less (2 ^ 32) r.result.words (as_totals c.args.tally).report c.requires.0 (omega (arith, r.ensures.few))),
-      c.requires.1,
-    )
+correct_run-requires c = (c.in_ok-run.ensures.fits, c.requires)
 
 pub returns : goal.returns
 returns c =
-    let w = c.correct_run in
-    let v = c.visit-visited in
-    let r = c.protected_run_at-run in
     let g = c.args in
     let x = g.bytes.now in
-    let t = as_totals g.tally in
-    let e : v.result.report.words ≡ t.report.words = ap (λ (q : Totals). q.report.words) v.ensures in record {
-      leaves = w.ensures.leaves ∙ ap (λ (ps : List Codeword). correct_all g.with_check ps x) r.ensures.codewords;
-      tells = w.ensures.tells ∙ ap₂ (λ (q : Totals) (ps : List Codeword). with_classes q (met g.with_check x ps)) (v.ensures ∙ ap (marked t) r.ensures.visits) r.ensures.codewords;
-      grows = (omega (arith, w.ensures.grows.0, r.ensures.few), w.ensures.grows.1);
+    let b = g.with_check in
+    let k = c.in_ok-run.ensures in
+    let w = c.correct_run.ensures in
+    let ks = met b x (codewords_of c.in_ok-run.run') in
+    record {
+      leaves = w.leaves ∙ ap (λ (ps : List Codeword). correct_all b ps x) k.codewords;
+      tells = ap Some w.tells ∙ ap₂ (λ (t : Bool) (ps : List Codeword). given t (report (met b x ps))) (sym k.visits) k.codewords;
+      few = omega (arith, ap (λ (q : Report). q.words) w.tells, met_words b x (codewords_of c.in_ok-run.run'), run_length c.in_ok-run.run', k.few);
     }
-
-pub shape_of-bytes : goal.shape_of-bytes
-shape_of-bytes c = omega arith

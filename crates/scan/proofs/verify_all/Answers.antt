@@ -1,58 +1,40 @@
-use mathlib.Core.Path.{sym, ap, ◌∙◌}
-use Prim.Native.Nat.{◌+◌}
+use mathlib.Core.Path.{◌≡◌, sym, ap, ap₂, ◌∙◌, subst}
+use Prim.Native.Nat.{suc, ◌+◌}
 use native.Mathlib.Omega.{arith}
-use lib.ListN.{length, drop}
-use Rattle.model.specs.Views.{entries_for, region_at}
-use Rattle.model.specs.Scan.{visits_over, scan_in}
-use Rattle.scan.specs.Runs.{visits_at}
-use Rattle.scan.specs.Tally.{Totals, as_totals, with_visits}
-use Rattle.scan.proofs.TallyLaw.{room_start}
-use Rattle.scan.proofs.VisitLaw.{run_more, more_next, more_done, all_said}
+use Rattle.std.specs.Prelude.{Option}
+use Rattle.model.specs.Scan.{Report}
+use Rattle.model.specs.Views.{region_at}
+use Rattle.scan.specs.Answers.{as_scan}
+use Rattle.scan.specs.Tally.{together, or_zeros, Bounded}
+use Rattle.scan.proofs.TallyLaw.{together_words}
+use Rattle.scan.proofs.VisitLaw.{scanned_to, none_scanned, scanned_next, scanned_all, scanned_bounded, bounded_scan}
 use Rattle.scan.proofs.verify_all.Goals as goal
 
 pub loop-i-init : goal.loop-i-init
-loop-i-init c =
-    let e = c.empty_tally-tally.ensures in
-    let g = c.args in
-    let n = g.header.region_count in
-    let x = g.bytes.now in
-    (omega arith, omega (arith, ap (λ (t : Totals). t.report.words) e), room_start _ e, ap (with_visits x (visits_over (length x) (entries_for n x) (entries_for n x))) e)
+loop-i-init c = (sym (none_scanned c.args.bytes.now c.args.header.region_count), omega arith)
 
-pub add_run-tally-requires : goal.add_run-tally-requires
-add_run-tally-requires c =
-    let r = c.protected_run_at-run in
+pub together-total-requires : goal.together-total-requires
+together-total-requires c =
     let l = c.loop-i in
-    (r.ensures.fits, c.fill_check_table.ensures, record { words = omega (arith, l.invariant.1, r.ensures.few); counts = l.invariant.2.counts })
+    let f = c.scan_entry-found.ensures in
+    let b : Bounded (or_zeros (as_scan l.total)) = subst (λ (o : Option Report). Bounded (or_zeros o)) (sym l.invariant.0) (scanned_bounded c.args.bytes.now c.args.header.region_count l.i) in (
+      record { words = omega (arith, l.invariant.1, f.few); counts = b },
+      subst (λ (o : Option Report). Bounded (or_zeros o)) (sym f.is) (bounded_scan c.args.bytes.now _),
+    )
 
 pub loop-i-preserved : goal.loop-i-preserved
 unfolding region_at
 loop-i-preserved c =
-    let r = c.protected_run_at-run in
     let l = c.loop-i in
-    let g = c.args in
-    let n = g.header.region_count in
-    let x = g.bytes.now in
-    let t = as_totals l.tally in (
-      omega arith,
-      omega (arith, c.add_run-tally.ensures.grows.0, l.invariant.1, r.ensures.few),
-      c.add_run-tally.ensures.grows.1,
-      ap (with_visits x (visits_over (length x) (entries_for n x) (drop (l.i + 1) (entries_for n x)))) (c.add_run-tally.ensures.is ∙ run_more x (visits_at n x l.i) r.result t r.ensures)
-          ∙ sym (more_next x (entries_for n x) (entries_for n x) l.i t) ∙ l.invariant.3,
+    let f = c.scan_entry-found in
+    let x = c.args.bytes.now in
+    let n = c.args.header.region_count in
+    let e : suc l.i ≡ l.i + 1 = omega arith in (
+      c.together-total.ensures ∙ ap₂ together l.invariant.0 f.ensures.is ∙ scanned_next x n l.i ∙ ap (scanned_to x n) e,
+      omega (arith, ap (λ (o : Option Report). (or_zeros o).words) c.together-total.ensures, together_words (as_scan l.total) (as_scan f.result), l.invariant.1, f.ensures.few),
     )
 
 pub returns : goal.returns
-unfolding scan_in
 returns c =
     let l = c.loop-i in
-    let g = c.args in
-    let n = g.header.region_count in
-    let x = g.bytes.now in
-    let t = as_totals l.tally in
-    c.scan_result.ensures
-    ∙ all_said x (visits_over (length x) (entries_for n x) (entries_for n x)) t (sym (more_done x n l.i t (omega arith)) ∙ l.invariant.3)
-
-pub overflow_add-i : goal.overflow_add-i
-overflow_add-i c = omega arith
-
-pub loop-i-smaller : goal.loop-i-smaller
-loop-i-smaller c = omega arith
+    l.invariant.0 ∙ scanned_all c.args.bytes.now c.args.header.region_count l.i (omega arith)

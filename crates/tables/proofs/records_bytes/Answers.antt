@@ -1,34 +1,12 @@
-use mathlib.Core.Path.{refl}
-use lib.ListN.{length}
-use Rattle.model.specs.Views.{part_of}
+use Rattle.std.proofs.Common.{length}
 use Rattle.layout.specs.Regions.{as_entry}
-use Rattle.tables.specs.Parts.{start_of}
-use Rattle.tables.proofs.PartLaw.{cut, carried}
+use Rattle.tables.proofs.PartLaw.{span_inside, of_span}
 use Rattle.tables.proofs.Within.{table_within}
 use Rattle.tables.proofs.records_bytes.Goals as goal
 
 -- `tables::records_bytes` meets its contract. Assumes nothing.
-pub slice_bounds-result-count : goal.slice_bounds-result-count
-slice_bounds-result-count c =
-    let g = c.args in
-    (table_within (length g.bytes.now) (as_entry g.region) g.stride _ _ c.in-Bytes.ensures).0
+pub part_at-requires : goal.part_at-requires
+part_at-requires c = let g = c.args in let n = length g.bytes.now in rw c.ok.ensures.value (span_inside n _ _ c.records_span.ensures (table_within n (as_entry g.region) g.stride))
 
-pub slice_bounds-result-start : goal.slice_bounds-result-start
-slice_bounds-result-start c =
-    let g = c.args in
-    (table_within (length g.bytes.now) (as_entry g.region) g.stride _ _ c.in-Bytes.ensures).0
-
-pub slice_bounds-result-end : goal.slice_bounds-result-end
-slice_bounds-result-end c =
-    let g = c.args in
-    (table_within (length g.bytes.now) (as_entry g.region) g.stride _ _ c.in-Bytes.ensures).1
-
-pub returns-in-Bytes : goal.returns-in-Bytes
-returns-in-Bytes c =
-    let g = c.args in
-    cut start_of (part_of g.bytes.now) g.bytes _ c.in-Bytes.ensures refl refl refl
-
-pub returns-in-Refused : goal.returns-in-Refused
-returns-in-Refused c =
-    let g = c.args in
-    carried start_of (part_of g.bytes.now) g.bytes _ c.in-Refused.ensures c.empty_at.ensures
+pub returns : goal.returns
+returns c = of_span _ _ _ _ _ c.ok.ensures.value c.records_span.ensures c.part_at.ensures

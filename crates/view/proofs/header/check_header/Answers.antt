@@ -8,26 +8,22 @@ use Rattle.model.specs.Parse.{prologue_verdict, parse_verdict, entries_verdict}
 use Rattle.model.proofs.ParseLaw.{too_short, prologue_refused, header_past, entries_say, accepted_count}
 use Rattle.model.specs.Refusals.{fine}
 use Rattle.error.specs.declared.Refusal.{Refusal}
-use Rattle.error.specs.declared.Check.{Check}
-use Rattle.error.specs.declared.Check.TheVariants.{Fine}
-use Rattle.error.specs.declared.Check.TheVariants as check
 use Rattle.error.specs.Refused.{number_of, detail_of, as_check}
-use Rattle.view.specs.declared.header.Counted.{Counted}
-use Rattle.view.specs.declared.header.Counted.TheVariants.{Count, Refuse}
+use Rattle.std.specs.Prelude.{Result, Ok, Err}
 use Rattle.view.specs.Answers.{as_counted, with_count, refused_with, fine_with}
 use Rattle.view.proofs.AnswersLaw.{counted_fine, counted_count, counted_refused, with_fine, with_refused}
+use Rattle.error.proofs.PassedOn.{err_is}
 use Rattle.view.proofs.header.check_header.Goals as goal
 
 -- `view::header::check_header` meets its contract: the checks in their order. Assumes nothing.
 -- past the first check: x has 48 bytes, and r is what the prologue's checks say
-module _ (x : List ℕ) (l : 48 ≤ length x) (r : Counted) (e : as_counted r ≡ with_count (prologue_verdict (prologue x)) (count x)) where
-  refused_there : (s : Refusal) → r ≡ Refuse s → as_counted r ≡ with_count (parse_verdict x) (count x)
+module _ (x : List ℕ) (l : 48 ≤ length x) (r : Result ℕ Refusal) (e : as_counted r ≡ with_count (prologue_verdict (prologue x)) (count x)) where
+  refused_there : (s : Refusal) → r ≡ Err s → refused_with (number_of s) (detail_of s) ≡ with_count (parse_verdict x) (count x)
   refused_there s f =
-      ap as_counted f
-      ∙ with_refused (parse_verdict x) (number_of s) (detail_of s) (count x)
+      with_refused (parse_verdict x) (number_of s) (detail_of s) (count x)
       (prologue_refused x l (number_of s) (detail_of s) (counted_refused (prologue_verdict (prologue x)) (number_of s) (detail_of s) (count x) (ap as_counted (sym f) ∙ e)))
 
-  module _ (n : ℕ) (f : r ≡ Count n) where
+  module _ (n : ℕ) (f : r ≡ Ok n) where
     fine_there : prologue_verdict (prologue x) ≡ fine
     fine_there = counted_fine (prologue_verdict (prologue x)) n (count x) (ap as_counted (sym f) ∙ e)
 
@@ -42,45 +38,49 @@ module _ (x : List ℕ) (l : 48 ≤ length x) (r : Counted) (e : as_counted r �
     short_header h =
         with_refused (parse_verdict x) 1 0 (count x) (header_past x l fine_there (subst (λ (k : ℕ). length x < header_length k) is_count h))
 
-    module _ (h : header_length n ≤ length x) (k : Check) (d : as_check k ≡ entries_verdict (length x) 0 (directory_of n x)) where
+    module _ (h : header_length n ≤ length x) (k : Result Unit Refusal) (d : as_check k ≡ entries_verdict (length x) 0 (directory_of n x)) where
       say : as_check k ≡ parse_verdict x
       unfolding directory
       say =
           d ∙ ap (λ (m : ℕ). entries_verdict (length x) 0 (directory_of m x)) is_count
           ∙ sym (entries_say x l fine_there (subst (λ (m : ℕ). header_length m ≤ length x) is_count h))
 
-      all_fine : k ≡ Fine → fine_with n ≡ with_count (parse_verdict x) (count x)
+      all_fine : k ≡ Ok tt → fine_with n ≡ with_count (parse_verdict x) (count x)
       all_fine g = with_fine (parse_verdict x) n (count x) (sym say ∙ ap as_check g) is_count
 
-      entry_refused : (s : Refusal) → k ≡ check.Refuse s → refused_with (number_of s) (detail_of s) ≡ with_count (parse_verdict x) (count x)
+      entry_refused : (s : Refusal) → k ≡ Err s → refused_with (number_of s) (detail_of s) ≡ with_count (parse_verdict x) (count x)
       entry_refused s g = with_refused (parse_verdict x) (number_of s) (detail_of s) (count x) (sym say ∙ ap as_check g)
 
 pub returns-then-bytes-lt-DIRECTORY_OFFSET : goal.returns-then-bytes-lt-DIRECTORY_OFFSET
 returns-then-bytes-lt-DIRECTORY_OFFSET c = let x = c.args.bytes.now in with_refused (parse_verdict x) 1 0 (count x) (too_short x c.if-bytes-lt-DIRECTORY_OFFSET.true)
 
-pub returns-in_default : goal.returns-in_default
-returns-in_default c =
-    refused_there c.args.bytes.now c.if-bytes-lt-DIRECTORY_OFFSET.false c.check_prologue-checked.result c.check_prologue-checked.ensures c.in_default.field-0 c.in_default.is
+pub returns-in_err-n : goal.returns-in_err-n
+returns-in_err-n c =
+    let e = c.in_err-n.field-0.0 in
+    rw (err_is _ e c.from_residual.ensures.1)
+    (refused_there c.args.bytes.now c.if-bytes-lt-DIRECTORY_OFFSET.false c.check_prologue.result c.check_prologue.ensures e c.in_err-n.was)
 
 pub returns-then-bytes-header_length : goal.returns-then-bytes-header_length
 returns-then-bytes-header_length c =
-    short_header c.args.bytes.now c.if-bytes-lt-DIRECTORY_OFFSET.false c.check_prologue-checked.result c.check_prologue-checked.ensures
-    c.in-Count.n c.in-Count.is (omega (arith, c.if-bytes-header_length.true, c.header_length.ensures))
+    short_header c.args.bytes.now c.if-bytes-lt-DIRECTORY_OFFSET.false c.check_prologue.result c.check_prologue.ensures
+    c.in_ok-n.n c.in_ok-n.was (omega (arith, c.if-bytes-header_length.true, c.header_length.ensures))
 
 pub check_directory-requires : goal.check_directory-requires
 check_directory-requires c = (
   omega (arith, c.if-bytes-header_length.false, c.header_length.ensures),
-  small_count c.args.bytes.now c.if-bytes-lt-DIRECTORY_OFFSET.false c.check_prologue-checked.result c.check_prologue-checked.ensures
-      c.in-Count.n c.in-Count.is,
+  small_count c.args.bytes.now c.if-bytes-lt-DIRECTORY_OFFSET.false c.check_prologue.result c.check_prologue.ensures
+      c.in_ok-n.n c.in_ok-n.was,
 )
 
-pub returns-in-Fine : goal.returns-in-Fine
-returns-in-Fine c =
-    all_fine c.args.bytes.now c.if-bytes-lt-DIRECTORY_OFFSET.false c.check_prologue-checked.result c.check_prologue-checked.ensures
-    c.in-Count.n c.in-Count.is (omega (arith, c.if-bytes-header_length.false, c.header_length.ensures)) c.check_directory.result c.check_directory.ensures c.in-Fine.is
+pub returns-in_err-check_directory : goal.returns-in_err-check_directory
+returns-in_err-check_directory c =
+    let e = c.in_err-check_directory.field-0.0 in
+    rw (err_is _ e c.from_residual-in_err-check_directory.ensures.1)
+    (entry_refused c.args.bytes.now c.if-bytes-lt-DIRECTORY_OFFSET.false c.check_prologue.result c.check_prologue.ensures
+    c.in_ok-n.n c.in_ok-n.was (omega (arith, c.if-bytes-header_length.false, c.header_length.ensures)) c.check_directory.result c.check_directory.ensures
+    e c.in_err-check_directory.was)
 
-pub returns-in-Refuse : goal.returns-in-Refuse
-returns-in-Refuse c =
-    entry_refused c.args.bytes.now c.if-bytes-lt-DIRECTORY_OFFSET.false c.check_prologue-checked.result c.check_prologue-checked.ensures
-    c.in-Count.n c.in-Count.is (omega (arith, c.if-bytes-header_length.false, c.header_length.ensures)) c.check_directory.result c.check_directory.ensures
-    c.in-Refuse.refusal c.in-Refuse.is
+pub returns : goal.returns
+returns c =
+    all_fine c.args.bytes.now c.if-bytes-lt-DIRECTORY_OFFSET.false c.check_prologue.result c.check_prologue.ensures
+    c.in_ok-n.n c.in_ok-n.was (omega (arith, c.if-bytes-header_length.false, c.header_length.ensures)) c.check_directory.result c.check_directory.ensures c.in_ok-check_directory.was

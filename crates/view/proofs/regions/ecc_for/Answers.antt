@@ -6,7 +6,7 @@ use lib.ListN.{length}
 use Rattle.std.specs.Prelude.{None, Some}
 use Rattle.model.specs.Layout.{Entry, directory_of, start, end}
 use Rattle.model.specs.Views.{first_that, plane_for}
-use Rattle.view.specs.declared.regions.RegionAt.TheVariants.{Found}
+use Rattle.std.specs.Prelude.{None, Some}
 use Rattle.view.specs.Answers.{found_as}
 use Rattle.model.specs.Views.{range, ecc_for}
 use Rattle.model.specs.Layout.{header_length}
@@ -18,7 +18,7 @@ use Rattle.view.proofs.regions.ecc_for.Goals as goal
 
 -- `view::regions::ecc_for` meets its contract. Assumes nothing.
 -- the first plane that covers the kind is handed out as p
-module _ (n : ℕ) (x : List ℕ) (k : ℕ) (h : header_length n ≤ length x) (p : Region) (f : Found p ≡ found_as (first_that (plane_for k) (directory_of n x))) where
+module _ (n : ℕ) (x : List ℕ) (k : ℕ) (h : header_length n ≤ length x) (p : Region) (f : Some p ≡ found_as (first_that (plane_for k) (directory_of n x))) where
   plane : (e : Entry) × (first_that (plane_for k) (directory_of n x) ≡ Some e) × (p ≡ region_of e)
   plane = found_some (first_that (plane_for k) (directory_of n x)) p f
 
@@ -36,22 +36,23 @@ module _ (n : ℕ) (x : List ℕ) (k : ℕ) (h : header_length n ≤ length x) (
 pub returns-then-bytes-header_length : goal.returns-then-bytes-header_length
 returns-then-bytes-header_length c = let g = c.args in sym (ecc_short g.header.region_count g.bytes.now g.region.kind (omega (arith, c.if-bytes-header_length.true, c.header_length.ensures)))
 
-pub returns-then-bytes-end : goal.returns-then-bytes-end
-returns-then-bytes-end c =
-    let g = c.args in
-    past_end g.header.region_count g.bytes.now g.region.kind (omega (arith, c.if-bytes-header_length.false, c.header_length.ensures)) c.in-Found.plane (sym c.in-Found.is ∙ c.plane_of.ensures) _ c.byte_end-end.ensures c.if-bytes-end.true
-
-pub returns-else-bytes-end : goal.returns-else-bytes-end
-returns-else-bytes-end c =
-    let g = c.args in
-    there g.header.region_count g.bytes.now g.region.kind (omega (arith, c.if-bytes-header_length.false, c.header_length.ensures)) c.in-Found.plane (sym c.in-Found.is ∙ c.plane_of.ensures) _ _ c.byte_offset.ensures c.byte_end-end.ensures c.if-bytes-end.false
-
-pub returns-in-Nothing : goal.returns-in-Nothing
-returns-in-Nothing c =
+pub returns-in_err-plane : goal.returns-in_err-plane
+returns-in_err-plane c =
     let g = c.args in
     let n = g.header.region_count in
     let x = g.bytes.now in
-    sym (ecc_none n x g.region.kind (omega (arith, c.if-bytes-header_length.false, c.header_length.ensures)) (found_none (first_that (plane_for g.region.kind) (directory_of n x)) (sym c.in-Nothing.is ∙ c.plane_of.ensures)))
+    rw c.from_residual.ensures
+    (sym (ecc_none n x g.region.kind (omega (arith, c.if-bytes-header_length.false, c.header_length.ensures)) (found_none (first_that (plane_for g.region.kind) (directory_of n x)) c.in_err-plane.ensures)))
+
+pub returns-then-bytes-end : goal.returns-then-bytes-end
+returns-then-bytes-end c =
+    let g = c.args in
+    past_end g.header.region_count g.bytes.now g.region.kind (omega (arith, c.if-bytes-header_length.false, c.header_length.ensures)) c.in_ok-plane.plane (sym c.in_ok-plane.was ∙ c.plane_of.ensures) _ c.byte_end-end.ensures c.if-bytes-end.true
+
+pub returns : goal.returns
+returns c =
+    let g = c.args in
+    there g.header.region_count g.bytes.now g.region.kind (omega (arith, c.if-bytes-header_length.false, c.header_length.ensures)) c.in_ok-plane.plane (sym c.in_ok-plane.was ∙ c.plane_of.ensures) _ _ c.byte_offset.ensures c.byte_end-end.ensures c.if-bytes-end.false
 
 pub plane_of-requires : goal.plane_of-requires
 plane_of-requires c = omega arith

@@ -5,7 +5,7 @@ use Rattle.model.specs.Views.{of_kind}
 use Rattle.model.proofs.LayoutLaw.{walk, walked}
 use Rattle.model.proofs.WalkLaw.{first_here, first_next, first_end}
 use Rattle.model.specs.Steps.{entry_in}
-use Rattle.view.specs.declared.regions.RegionAt.TheVariants.{Found}
+use Rattle.std.specs.Prelude.{Some}
 use Rattle.view.specs.Answers.{found_as}
 use Rattle.view.proofs.EntriesForLaw.{find_short, find_long, kind_test, kind_test_not}
 use Rattle.view.proofs.regions.find_region.Goals as goal
@@ -21,7 +21,7 @@ returns-then-entry_u16-kind c =
     let g = c.args in
     let n = g.header.region_count in
     let x = g.bytes.now in
-    ap Found c.voted_region.ensures
+    ap Some c.voted_region.ensures
     ∙ ap found_as (sym (find_long n x g.kind (omega (arith, c.if-bytes-header_length.false, c.header_length.ensures))
     ∙ sym c.loop-i.invariant.1 ∙ first_here (directory_of n x) c.loop-i.i (entry_in n x c.loop-i.i) (walk n x c.loop-i.i (omega arith)) (of_kind g.kind)
     (kind_test n x c.loop-i.i g.kind c.entry_u16.result c.entry_u16.ensures c.if-entry_u16-kind.true)))

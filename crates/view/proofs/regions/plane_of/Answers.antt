@@ -5,7 +5,7 @@ use Rattle.model.specs.Views.{plane_for}
 use Rattle.model.proofs.LayoutLaw.{walk, walked}
 use Rattle.model.proofs.WalkLaw.{first_here, first_next, first_end}
 use Rattle.model.specs.Steps.{entry_in}
-use Rattle.view.specs.declared.regions.RegionAt.TheVariants.{Found}
+use Rattle.std.specs.Prelude.{Some}
 use Rattle.view.specs.Answers.{found_as}
 use Rattle.view.proofs.EntriesForLaw.{plane_test}
 use Rattle.view.proofs.regions.plane_of.Goals as goal
@@ -17,7 +17,7 @@ pub returns-then-covers_kind : goal.returns-then-covers_kind
 returns-then-covers_kind c =
     let g = c.args in
     let x = g.bytes.now in
-    ap Found c.voted_region.ensures
+    ap Some c.voted_region.ensures
     ∙ ap found_as (sym (sym c.loop-i.invariant.1 ∙ first_here (directory_of g.n x) c.loop-i.i (entry_in g.n x c.loop-i.i) (walk g.n x c.loop-i.i (omega arith)) (plane_for g.kind)
     (plane_test g.n x c.loop-i.i g.kind c.entry_u16-flags.result c.entry_u16.result c.covers_kind.result
     c.entry_u16-flags.ensures c.entry_u16.ensures c.covers_kind.ensures ∙ c.if-covers_kind.true)))

@@ -1,6 +1,6 @@
 use mathlib.Core.Path.{sym, ap, ◌∙◌}
 use native.Mathlib.Omega.{arith}
-use Rattle.view.specs.declared.regions.RegionAt.TheVariants.{Found}
+use Rattle.std.specs.Prelude.{Some}
 use Rattle.view.specs.Answers.{found_as}
 use Rattle.view.proofs.EntriesForLaw.{region_short, region_past, region_in}
 use Rattle.view.proofs.regions.region_at.Goals as goal
@@ -15,7 +15,7 @@ returns-then-n-i c = let g = c.args in ap found_as (sym (region_past g.header.re
 pub returns : goal.returns
 returns c =
     let g = c.args in
-    ap Found c.voted_region.ensures ∙ ap found_as (sym (region_in g.header.region_count g.bytes.now g.index (omega (arith, c.if-bytes-header_length.false, c.header_length.ensures)) c.if-n-i.false))
+    ap Some c.voted_region.ensures ∙ ap found_as (sym (region_in g.header.region_count g.bytes.now g.index (omega (arith, c.if-bytes-header_length.false, c.header_length.ensures)) c.if-n-i.false))
 
 pub voted_region-requires : goal.voted_region-requires
 voted_region-requires c = omega arith
