@@ -4,7 +4,7 @@ ghost use Rattle.model.specs.Programs.{lines};
 ghost use Rattle.model.specs.Hex.{upper_lines, hex_text, hex_write};
 ghost use Rattle.put.specs.Put.{Put};
 ghost use Rattle.intel_hex.specs.Answers.{as_hex, answer_of, filled, done_length};
-ghost use Rattle.intel_hex.specs.Steps.{line_end, text_length};
+ghost use Rattle.intel_hex.specs.Steps.{text_length};
 
 use crate::record::put_record;
 use error::Refusal;
@@ -26,8 +26,7 @@ fn upper_half(address: usize) -> [u8; 2]
     requires { address < 4294967296 }
     ensures { result ≡ address / 65536 / 256 ∷ address / 65536 % 256 ∷ [] }
 {
-    let upper = address / HALF;
-    [(upper / 256) as u8, (upper % 256) as u8]
+    ((address / HALF) as u16).to_be_bytes()
 }
 
 // The line that stands before each further 65,536 bytes.
@@ -44,29 +43,15 @@ fn put_upper(text: &mut [u8], at: usize, address: usize) -> usize
     put_record(text, at, 0, UPPER, &upper_half(address))
 }
 
-// Where a line's bytes end that start at a place.
-fn line_end(from: usize, length: usize) -> usize
-    requires { from < length }
-    ensures is { result ≡ line_end from length }
-    ensures fits { (from ≤ result) × (result ≤ length) × (result ≤ from + 16) }
-{
-    if length - from < LINE_BYTES {
-        length
-    } else {
-        from + LINE_BYTES
-    }
-}
-
 fn put_text(text: &mut [u8], bytes: &[u8]) -> usize
     requires { (length (hex_text bytes.now) ≤ length text.old) × (length bytes.now ≤ 8388608) }
     ensures { Put text.old 0 (hex_text bytes.now) result text.new }
 {
     let mut next: usize = 0;
     let mut from: usize = 0;
-    while from < bytes.len() {
-        let line = put_upper(text, next, from);
-        let end = line_end(from, bytes.len());
-        next = put_record(text, line, (from % HALF) as u16, DATA, &bytes[from..end]);
+    for line in bytes.chunks(LINE_BYTES) {
+        let data = put_upper(text, next, from);
+        next = put_record(text, data, (from % HALF) as u16, DATA, line);
         from += LINE_BYTES;
     }
     put_record(text, next, 0, END, b"")
