@@ -24,7 +24,3 @@ answer_of o = answer_in o.verdict (length o.bytes)
 -- the bytes of the outcome, and behind them the buffer as it was
 abbrev pub filled : Outcome → List ℕ → List ℕ
 filled o buffer = o.bytes ++ drop (length o.bytes) buffer
-
-abbrev pub done_length : Result ℕ Refusal → ℕ
-done_length (Ok n) = n
-done_length (Err r) = 0

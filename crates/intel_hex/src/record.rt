@@ -29,7 +29,9 @@ fn put_pairs(text: &mut [u8], at: usize, bytes: &[u8]) -> usize
 fn low_total(bytes: &[u8]) -> u8
     ensures { result ≡ total bytes.now % 256 }
 {
-    bytes.iter().fold(0, |sum: u8, byte| sum.wrapping_add(*byte))
+    bytes
+        .iter()
+        .fold(0, |sum: u8, byte| sum.wrapping_add(*byte))
 }
 
 // What stands before a record's data.

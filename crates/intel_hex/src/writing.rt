@@ -1,9 +1,9 @@
 // The hex text of a byte string, put into a lent buffer. (FORMAT 15)
-ghost use Rattle.std.specs.Prelude.{◌≡◌, ◌+◌, ◌-◌, ◌/◌, ◌%◌, ◌<◌, ◌≤◌, [], ◌∷◌, length};
+ghost use Rattle.std.specs.Prelude.{◌≡◌, ◌+◌, ◌-◌, ◌/◌, ◌%◌, ◌<◌, ◌≤◌, [], ◌∷◌, length, IfOk};
 ghost use Rattle.model.specs.Programs.{lines};
 ghost use Rattle.model.specs.Hex.{upper_lines, hex_text, hex_write};
 ghost use Rattle.put.specs.Put.{Put};
-ghost use Rattle.intel_hex.specs.Answers.{as_hex, answer_of, filled, done_length};
+ghost use Rattle.intel_hex.specs.Answers.{as_hex, answer_of, filled};
 ghost use Rattle.intel_hex.specs.Steps.{text_length};
 
 use crate::record::put_record;
@@ -78,7 +78,7 @@ fn text_length(n: usize) -> usize
 pub fn write(bytes: &[u8], text: &mut [u8]) -> Result<usize, Refusal>
     ensures is { as_hex result ≡ answer_of (hex_write bytes.now (length text.old)) }
     ensures leaves { text.new ≡ filled (hex_write bytes.now (length text.old)) text.old }
-    ensures fits { done_length result ≤ length text.new }
+    ensures fits { IfOk result (λ n. n ≤ length text.new) }
 {
     if bytes.len() > MAX_IMAGE_BYTES {
         return Err(Refusal::TooLarge);
