@@ -10,30 +10,22 @@ use super::rows::Row;
 use error::Refusal;
 use layout::{MAX_IMAGE_BYTES, WORD, header_length};
 
-fn row_words(rows: &[Row]) -> usize
+// The words of the rows' regions, and of their planes.
+fn count_words(rows: &[Row]) -> (usize, usize)
     requires { length rows.now ≤ 1024 }
-    ensures is { result ≡ row_words_lem (as_plan rows.now) }
-    ensures few { result ≤ 1024 * 4294967295 }
+    ensures words { result.0 ≡ row_words_lem (as_plan rows.now) }
+    ensures planes { result.1 ≡ planes_words (as_plan rows.now) }
+    ensures few { (result.0 ≤ 1024 * 4294967295) × (result.1 ≤ 1024 * 4294967295) }
 {
-    let mut sum: usize = 0;
+    let mut words: usize = 0;
+    let mut planes: usize = 0;
     for row in rows {
-        sum += row.words as usize;
-    }
-    sum
-}
-
-fn planes_words(rows: &[Row]) -> usize
-    requires { length rows.now ≤ 1024 }
-    ensures is { result ≡ planes_words (as_plan rows.now) }
-    ensures few { result ≤ 1024 * 4294967295 }
-{
-    let mut sum: usize = 0;
-    for row in rows {
+        words += row.words as usize;
         if row.is_protected() {
-            sum += row.plane_words();
+            planes += row.plane_words();
         }
     }
-    sum
+    (words, planes)
 }
 
 // Checks what is left once the rows passed their own checks and have at most 1,024 regions: the payload's length, the image's, the room for it.
@@ -41,11 +33,11 @@ pub fn check_sizes(rows: &[Row], regions: usize, payload: &[u8], room: usize) ->
     requires { (length rows.now ≤ 1024) × (regions ≤ 1024) × (regions ≡ model.regions (as_plan rows.now)) }
     ensures { as_check result ≡ sizes_verdict (as_plan rows.now) payload.now room }
 {
-    let words = row_words(rows);
+    let (words, planes) = count_words(rows);
     if payload.len() != WORD * words {
         return Err(Refusal::BadPlan { row: rows.len() });
     }
-    let length = header_length(regions as u16) + WORD * (words + planes_words(rows));
+    let length = header_length(regions as u16) + WORD * (words + planes);
     if length > MAX_IMAGE_BYTES {
         return Err(Refusal::TooLarge);
     }

@@ -10,7 +10,7 @@ use Rattle.plan.proofs.sizes.check_sizes.Goals as goal
 pub returns-then-payload-words : goal.returns-then-payload-words
 returns-then-payload-words c =
     ap (refuse bad_plan) (sym (length_plan c.args.rows.now))
-    ∙ sym (other_length (as_plan c.args.rows.now) c.args.payload.now c.args.room (λ e. c.if-payload-words.true (omega (arith, e, c.row_words-words.ensures.is))))
+    ∙ sym (other_length (as_plan c.args.rows.now) c.args.payload.now c.args.room (λ e. c.if-payload-words.true (omega (arith, e, c.count_words-words.ensures.words))))
 
 -- ---- once all words are counted: the payload is as long as the rows say, and the length is the image's
 pub returns-then-length-gt-MAX_IMAGE_BYTES : goal.returns-then-length-gt-MAX_IMAGE_BYTES

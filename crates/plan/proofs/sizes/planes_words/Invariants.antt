@@ -1,8 +1,0 @@
-use Rattle.std.proofs.Common.{◌≡◌, ◌+◌, ◌*◌, ◌≤◌, drop}
-use Rattle.model.specs.Writer.{planes_words}
-use Rattle.plan.specs.Rows.{as_plan}
-use Rattle.plan.proofs.sizes.planes_words.Given as goal
-
--- `plan::sizes::planes_words` meets its contract. The invariant: the sum, and what the rows that are left add to it. Assumes nothing.
-abbrev pub invariant-loop-row : goal.invariant-loop-row
-invariant-loop-row l = (l.sum ≤ l.row-index * 4294967295) × (l.sum + planes_words (as_plan (drop l.row-index l.rows)) ≡ planes_words (as_plan l.rows))
