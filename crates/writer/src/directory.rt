@@ -25,7 +25,7 @@ pub(crate) fn put_directories(
     ensures { Put out.old at (thrice (directory_bytes first_word plane_word rows.now)) result out.new }
 {
     let mut next = at;
-    for copy in 0..COPIES {
+    for _copy in 0..COPIES {
         next = put_directory(out, next, rows, first_word, plane_word);
     }
     next

@@ -14,7 +14,7 @@ pub(crate) fn put_prologues(out: &mut [u8], regions: u16, flags: u16) -> usize
     ensures { Put out.old 0 (thrice (prologue_bytes regions flags)) result out.new }
 {
     let mut next = 0;
-    for copy in 0..COPIES {
+    for _copy in 0..COPIES {
         next = put_prologue(out, next, regions, flags);
     }
     next
