@@ -2,259 +2,266 @@
 ghost use Rattle.std.specs.Prelude.{◌≡◌};
 ghost use Rattle.arguments.specs.Arguments as model;
 
-use crate::argument::{
-    END_OF_OPTIONS, HELP, HELP_OPTION, MEND, NAME, OUTPUT_OPTION, REPORT, VERSION, VERSION_OPTION,
-};
+use crate::words::{Command, Word};
 
-pub const NO_COMMAND: u8 = 1;
+#[derive(Clone, Copy, PartialEq, Eq)]
+pub enum Fault {
+    NoCommand,
+    NoSuchCommand,
+    NoSuchOption,
+    NoFile,
+    SecondFile,
+    NoOutput,
+    SecondOutput,
+    NotExpected,
+}
 
-pub const NO_SUCH_COMMAND: u8 = 2;
+// Faults are known by these numbers too, of which any other is the last one's.
+impl From<u8> for Fault {
+    ghost from_gives = { λ number fault. fault ≡ model.fault_numbered number };
 
-pub const NO_SUCH_OPTION: u8 = 3;
+    fn from(number: u8) -> Fault {
+        match number {
+            1 => Fault::NoCommand,
+            2 => Fault::NoSuchCommand,
+            3 => Fault::NoSuchOption,
+            4 => Fault::NoFile,
+            5 => Fault::SecondFile,
+            6 => Fault::NoOutput,
+            7 => Fault::SecondOutput,
+            _ => Fault::NotExpected,
+        }
+    }
+}
 
-pub const NO_FILE: u8 = 4;
+// A fault, and the argument at fault, if none is missing.
+#[derive(Clone, Copy, PartialEq, Eq)]
+pub struct Misuse {
+    pub fault: Fault,
+    pub place: Option<usize>,
+}
 
-pub const SECOND_FILE: u8 = 5;
+// The files that are named, by the place of the first.
+#[derive(Clone, Copy, PartialEq, Eq)]
+pub enum Files {
+    None,
+    One(usize),
+    Several(usize),
+}
 
-pub const NO_OUTPUT: u8 = 6;
+// How the next argument is read.
+#[derive(Clone, Copy, PartialEq, Eq)]
+pub enum Next {
+    Any,
+    Output,
+    Name,
+}
 
-pub const SECOND_OUTPUT: u8 = 7;
-
-pub const NOT_EXPECTED: u8 = 8;
-
-const ANY: u8 = 0;
-
-const OUTPUT_NEXT: u8 = 1;
-
-const NAMES_ONLY: u8 = 2;
-
-// Arguments are named by their numbers, with 0 for none.
-#[derive(Clone, Copy)]
+#[derive(Clone, Copy, PartialEq, Eq)]
 pub struct Invocation {
-    pub command: u8,
+    pub command: Option<Command>,
     // The command that help is asked for.
-    pub topic: u8,
-    // 0 for no file, 1 for one, 2 for more.
-    pub files: u8,
-    pub file: usize,
-    pub output: usize,
-    // How the next argument is read.
-    pub state: u8,
-    pub fault: u8,
-    // The argument at fault.
-    pub place: usize,
+    pub topic: Option<Command>,
+    pub files: Files,
+    pub output: Option<usize>,
+    pub next: Next,
+    pub misuse: Option<Misuse>,
 }
 
 pub fn start() -> Invocation
     ensures { result ≡ model.nothing_yet }
 {
     Invocation {
-        command: 0,
-        topic: 0,
-        files: 0,
-        file: 0,
-        output: 0,
-        state: ANY,
-        fault: 0,
-        place: 0,
+        command: None,
+        topic: None,
+        files: Files::None,
+        output: None,
+        next: Next::Any,
+        misuse: None,
     }
 }
 
-fn faulty(invocation: Invocation, place: usize, fault: u8) -> Invocation
+// Argument 0 is the command's own name, and stands for none.
+fn numbered(place: usize) -> Option<usize>
+    ensures { result ≡ model.numbered place }
+{
+    if place > 0 { Some(place) } else { None }
+}
+
+fn faulty(invocation: Invocation, place: usize, fault: Fault) -> Invocation
     ensures { result ≡ model.faulty invocation place fault }
 {
-    let mut next = invocation;
-    next.fault = fault;
-    next.place = place;
-    next
+    let misuse = Misuse {
+        fault,
+        place: numbered(place),
+    };
+    Invocation {
+        misuse: Some(misuse),
+        ..invocation
+    }
 }
 
-fn commanding(invocation: Invocation, command: u8, topic: u8) -> Invocation
+fn commanding(invocation: Invocation, command: Command, topic: Option<Command>) -> Invocation
     ensures { result ≡ model.commanding invocation command topic }
 {
-    let mut next = invocation;
-    next.command = command;
-    next.topic = topic;
-    next
+    Invocation {
+        command: Some(command),
+        topic,
+        ..invocation
+    }
 }
 
-fn in_state(invocation: Invocation, state: u8) -> Invocation
-    ensures { result ≡ model.in_state invocation state }
+fn expecting(invocation: Invocation, next: Next) -> Invocation
+    ensures { result ≡ model.expecting invocation next }
 {
-    let mut next = invocation;
-    next.state = state;
-    next
+    Invocation { next, ..invocation }
 }
 
 fn with_output(invocation: Invocation, place: usize) -> Invocation
     ensures { result ≡ model.with_output invocation place }
 {
-    let mut next = invocation;
-    next.output = place;
-    next.state = ANY;
-    next
+    Invocation {
+        output: numbered(place),
+        next: Next::Any,
+        ..invocation
+    }
 }
 
 fn with_file(invocation: Invocation, place: usize) -> Invocation
     ensures { result ≡ model.with_file invocation place }
 {
-    let mut next = invocation;
-    if invocation.files == 0 {
-        next.files = 1;
-        next.file = place;
-    } else {
-        next.files = 2;
+    let files = match invocation.files {
+        Files::None => Files::One(place),
+        Files::One(first) | Files::Several(first) => Files::Several(first),
+    };
+    Invocation {
+        files,
+        ..invocation
     }
-    next
 }
 
-fn is_command(word: u8) -> bool
-    ensures { result ≡ model.is_command word }
-{
-    0 < word && word < OUTPUT_OPTION
-}
-
-fn first_word(invocation: Invocation, place: usize, word: u8) -> Invocation
+fn first_word(invocation: Invocation, place: usize, word: Word) -> Invocation
     ensures { result ≡ model.first_word invocation place word }
 {
-    if is_command(word) {
-        return commanding(invocation, word, 0);
+    match word {
+        Word::Command(command) => commanding(invocation, command, None),
+        Word::HelpOption => commanding(invocation, Command::Help, None),
+        Word::VersionOption => commanding(invocation, Command::Version, None),
+        Word::Name => faulty(invocation, place, Fault::NoSuchCommand),
+        _ => faulty(invocation, place, Fault::NoSuchOption),
     }
-    if word == HELP_OPTION {
-        return commanding(invocation, HELP, 0);
-    }
-    if word == VERSION_OPTION {
-        return commanding(invocation, VERSION, 0);
-    }
-    if word == NAME {
-        return faulty(invocation, place, NO_SUCH_COMMAND);
-    }
-    faulty(invocation, place, NO_SUCH_OPTION)
 }
 
 fn only_file(invocation: Invocation, place: usize) -> Invocation
     ensures { result ≡ model.only_file invocation place }
 {
-    if invocation.files == 0 {
-        return with_file(invocation, place);
+    match invocation.files {
+        Files::None => with_file(invocation, place),
+        _ => faulty(invocation, place, Fault::SecondFile),
     }
-    faulty(invocation, place, SECOND_FILE)
 }
 
-fn help_topic(invocation: Invocation, place: usize, word: u8) -> Invocation
+fn help_topic(invocation: Invocation, place: usize, word: Word) -> Invocation
     ensures { result ≡ model.help_topic invocation place word }
 {
-    if invocation.topic > 0 {
-        return faulty(invocation, place, NOT_EXPECTED);
+    match (invocation.topic, word) {
+        (Some(_), _) => faulty(invocation, place, Fault::NotExpected),
+        (None, Word::Command(command)) => commanding(invocation, Command::Help, Some(command)),
+        (None, _) => faulty(invocation, place, Fault::NoSuchCommand),
     }
-    if is_command(word) {
-        return commanding(invocation, HELP, word);
-    }
-    faulty(invocation, place, NO_SUCH_COMMAND)
 }
 
-fn named(invocation: Invocation, place: usize, word: u8) -> Invocation
-    ensures { result ≡ model.named invocation place word }
+fn named(invocation: Invocation, command: Command, place: usize, word: Word) -> Invocation
+    ensures { result ≡ model.named invocation command place word }
 {
-    if invocation.command == REPORT {
-        return with_file(invocation, place);
+    match command {
+        Command::Report => with_file(invocation, place),
+        Command::Mend => only_file(invocation, place),
+        Command::Help => help_topic(invocation, place, word),
+        Command::Version => faulty(invocation, place, Fault::NotExpected),
     }
-    if invocation.command == MEND {
-        return only_file(invocation, place);
-    }
-    if invocation.command == HELP {
-        return help_topic(invocation, place, word);
-    }
-    faulty(invocation, place, NOT_EXPECTED)
 }
 
 fn output(invocation: Invocation, place: usize) -> Invocation
     ensures { result ≡ model.output invocation place }
 {
-    if invocation.output == 0 {
-        return in_state(invocation, OUTPUT_NEXT);
+    match invocation.output {
+        None => expecting(invocation, Next::Output),
+        Some(_) => faulty(invocation, place, Fault::SecondOutput),
     }
-    faulty(invocation, place, SECOND_OUTPUT)
 }
 
-fn asks_output(invocation: Invocation, word: u8) -> bool
-    ensures { result ≡ model.asks_output invocation word }
+fn option(invocation: Invocation, command: Command, place: usize, word: Word) -> Invocation
+    ensures { result ≡ model.option invocation command place word }
 {
-    word == OUTPUT_OPTION && invocation.command == MEND
+    match (word, command) {
+        (Word::HelpOption, _) => commanding(invocation, Command::Help, Some(command)),
+        (Word::EndOfOptions, _) => expecting(invocation, Next::Name),
+        (Word::OutputOption, Command::Mend) => output(invocation, place),
+        _ => faulty(invocation, place, Fault::NoSuchOption),
+    }
 }
 
-fn option(invocation: Invocation, place: usize, word: u8) -> Invocation
-    ensures { result ≡ model.option invocation place word }
+fn may_name(next: Next, word: Word) -> bool
+    ensures { result ≡ model.may_name next word }
 {
-    if word == HELP_OPTION {
-        return commanding(invocation, HELP, invocation.command);
-    }
-    if word == END_OF_OPTIONS {
-        return in_state(invocation, NAMES_ONLY);
-    }
-    if asks_output(invocation, word) {
-        return output(invocation, place);
-    }
-    faulty(invocation, place, NO_SUCH_OPTION)
-}
-
-fn may_name(invocation: Invocation, word: u8) -> bool
-    ensures { result ≡ model.may_name invocation word }
-{
-    invocation.state == NAMES_ONLY || word < OUTPUT_OPTION
+    matches!(
+        (next, word),
+        (Next::Name, _) | (_, Word::Name | Word::Command(_))
+    )
 }
 
 // Whether an argument with this word, if all are in order, is one of the files that a report is asked on.
-pub fn reports_on(invocation: Invocation, word: u8) -> bool
+pub fn reports_on(invocation: Invocation, word: Word) -> bool
     ensures { result ≡ model.reports_on invocation word }
 {
-    if invocation.command == REPORT {
-        may_name(invocation, word)
+    invocation.command == Some(Command::Report) && may_name(invocation.next, word)
+}
+
+fn next_word(invocation: Invocation, command: Command, place: usize, word: Word) -> Invocation
+    ensures { result ≡ model.next_word invocation command place word }
+{
+    if may_name(invocation.next, word) {
+        named(invocation, command, place, word)
     } else {
-        false
+        option(invocation, command, place, word)
     }
 }
 
 // One argument more: its number, and what it is.
-pub fn step(invocation: Invocation, place: usize, word: u8) -> Invocation
+pub fn step(invocation: Invocation, place: usize, word: Word) -> Invocation
     ensures { result ≡ model.step invocation place word }
 {
-    if invocation.fault > 0 {
+    if invocation.misuse.is_some() {
         return invocation;
     }
-    if invocation.state == OUTPUT_NEXT {
+    if invocation.next == Next::Output {
         return with_output(invocation, place);
     }
-    if invocation.command == 0 {
-        return first_word(invocation, place, word);
+    match invocation.command {
+        None => first_word(invocation, place, word),
+        Some(command) => next_word(invocation, command, place, word),
     }
-    if may_name(invocation, word) {
-        return named(invocation, place, word);
-    }
-    option(invocation, place, word)
 }
 
-fn lacks_file(invocation: Invocation) -> bool
-    ensures { result ≡ model.lacks_file invocation }
+// What is missing where no argument is to come.
+fn lacking(invocation: Invocation) -> Option<Fault>
+    ensures { result ≡ model.lacking invocation.command invocation.next invocation.files }
 {
-    invocation.command < HELP && invocation.files == 0
+    match (invocation.command, invocation.next, invocation.files) {
+        (None, _, _) => Some(Fault::NoCommand),
+        (_, Next::Output, _) => Some(Fault::NoOutput),
+        (Some(Command::Report | Command::Mend), _, Files::None) => Some(Fault::NoFile),
+        _ => None,
+    }
 }
 
 // No argument more.
 pub fn finish(invocation: Invocation) -> Invocation
     ensures { result ≡ model.finish invocation }
 {
-    if invocation.fault > 0 {
-        return invocation;
+    match (invocation.misuse, lacking(invocation)) {
+        (None, Some(fault)) => faulty(invocation, 0, fault),
+        _ => invocation,
     }
-    if invocation.command == 0 {
-        return faulty(invocation, 0, NO_COMMAND);
-    }
-    if invocation.state == OUTPUT_NEXT {
-        return faulty(invocation, 0, NO_OUTPUT);
-    }
-    if lacks_file(invocation) {
-        return faulty(invocation, 0, NO_FILE);
-    }
-    invocation
 }

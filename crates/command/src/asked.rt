@@ -2,7 +2,7 @@
 ghost use Rattle.std.specs.Prelude.{IfOk};
 ghost use Rattle.io.specs.Counts.{IsPrefixLen};
 
-use arguments::Invocation;
+use arguments::{Invocation, Word};
 use std::env::FillError;
 use std::io::Error;
 use std::rt::Env;
@@ -16,14 +16,7 @@ fn is_given(rt: &HostRuntime, i: usize) -> bool {
 
 // How many arguments there are, the command's own name among them.
 pub(crate) fn count(rt: &HostRuntime) -> usize {
-    let mut count: usize = 0;
-    for i in 0..usize::MAX {
-        if !is_given(rt, i) {
-            break;
-        }
-        count = i + 1;
-    }
-    count
+    (0..usize::MAX).take_while(|i| is_given(rt, *i)).count()
 }
 
 // Argument i, which is too long for any name where it does not fit.
@@ -37,7 +30,7 @@ pub(crate) fn argument(rt: &HostRuntime, i: usize, word: &mut [u8]) -> Result<us
 }
 
 // What argument i is. One that is longer than any name is taken for a name, which can't be opened.
-pub(crate) fn word_at(rt: &HostRuntime, i: usize) -> u8 {
+pub(crate) fn word_at(rt: &HostRuntime, i: usize) -> Word {
     let mut word = io::buffer();
     match argument(rt, i, &mut word) {
         Ok(n) => arguments::word(&word[..n]),
@@ -54,14 +47,11 @@ pub(crate) fn invocation(rt: &HostRuntime, count: usize) -> Invocation {
 }
 
 // The argument that is at fault, or none where one is missing.
-pub(crate) fn argument_at_fault(rt: &HostRuntime, place: usize, word: &mut [u8]) -> usize
+pub(crate) fn argument_at_fault(rt: &HostRuntime, place: Option<usize>, word: &mut [u8]) -> usize
     ensures { IsPrefixLen result word.new }
 {
-    if place == 0 {
+    let Some(i) = place else {
         return 0;
-    }
-    match argument(rt, place, word) {
-        Ok(n) => n,
-        Err(_) => 0,
-    }
+    };
+    argument(rt, i, word).unwrap_or(0)
 }

@@ -1,7 +1,6 @@
 // kw mend.
 use crate::asked::argument;
 use crate::memory;
-use arguments::Invocation;
 use exit_status::FAILED;
 use failure::Gone;
 use layout::MAX_IMAGE_BYTES;
@@ -61,18 +60,19 @@ fn mend_into(rt: &HostRuntime, name: &[u8], output: usize) -> Result<u8, Gone> {
     }
 }
 
-fn mend_named(rt: &HostRuntime, name: &[u8], output: usize) -> Result<u8, Gone> {
-    if output > 0 {
+fn mend_named(rt: &HostRuntime, name: &[u8], output: Option<usize>) -> Result<u8, Gone> {
+    if let Some(output) = output {
         return mend_into(rt, name, output);
     }
     let in_place = !arguments::is_standard(name);
     mend_file(rt, name, name, in_place)
 }
 
-pub(crate) fn mend(rt: &HostRuntime, invocation: Invocation) -> Result<u8, Gone> {
+// Mends the file that argument `file` names, into the one that argument `output` names, or in place where there is none.
+pub(crate) fn mend(rt: &HostRuntime, file: usize, output: Option<usize>) -> Result<u8, Gone> {
     let mut name = io::buffer();
-    match argument(rt, invocation.file, &mut name) {
-        Ok(n) => mend_named(rt, &name[..n], invocation.output),
+    match argument(rt, file, &mut name) {
+        Ok(n) => mend_named(rt, &name[..n], output),
         Err(error) => {
             files::fail(rt, b"FILE", error)?;
             Ok(FAILED)

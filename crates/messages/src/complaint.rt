@@ -9,9 +9,8 @@ ghost use Rattle.messages.specs.Complaints.{too_long_sentence, naming, refusal_t
 
 use error::Refusal;
 use exit_status::Verdict;
+use paths::LONGEST_NAME;
 use put::put_bytes;
-
-const LONGEST_NAME: usize = 4096;
 
 pub(crate) fn put_name(out: &mut [u8], name: &[u8]) -> usize
     requires { length name.now + 6 ≤ length out.old }

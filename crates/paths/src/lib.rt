@@ -9,7 +9,8 @@ ghost use Rattle.paths.specs.Paths.{folder_length, folder, temporary_name, roote
 
 use put::put_bytes;
 
-const LONGEST_NAME: usize = 4096;
+// The system takes no longer name.
+pub const LONGEST_NAME: usize = 4096;
 
 // The place behind a byte, if that is a slash.
 fn behind_slash(byte: u8, behind: usize, last: usize) -> usize
