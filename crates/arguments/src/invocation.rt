@@ -232,15 +232,11 @@ fn next_word(invocation: Invocation, command: Command, place: usize, word: Word)
 pub fn step(invocation: Invocation, place: usize, word: Word) -> Invocation
     ensures { result ≡ model.step invocation place word }
 {
-    if invocation.misuse.is_some() {
-        return invocation;
-    }
-    if invocation.next == Next::Output {
-        return with_output(invocation, place);
-    }
-    match invocation.command {
-        None => first_word(invocation, place, word),
-        Some(command) => next_word(invocation, command, place, word),
+    match (invocation.misuse, invocation.next, invocation.command) {
+        (Some(_), _, _) => invocation,
+        (None, Next::Output, _) => with_output(invocation, place),
+        (None, _, None) => first_word(invocation, place, word),
+        (None, _, Some(command)) => next_word(invocation, command, place, word),
     }
 }
 
