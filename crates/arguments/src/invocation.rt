@@ -88,120 +88,6 @@ fn numbered(place: usize) -> Option<usize>
     if place > 0 { Some(place) } else { None }
 }
 
-fn faulty(invocation: Invocation, place: usize, fault: Fault) -> Invocation
-    ensures { result ≡ model.faulty invocation place fault }
-{
-    let misuse = Misuse {
-        fault,
-        place: numbered(place),
-    };
-    Invocation {
-        misuse: Some(misuse),
-        ..invocation
-    }
-}
-
-fn commanding(invocation: Invocation, command: Command, topic: Option<Command>) -> Invocation
-    ensures { result ≡ model.commanding invocation command topic }
-{
-    Invocation {
-        command: Some(command),
-        topic,
-        ..invocation
-    }
-}
-
-fn expecting(invocation: Invocation, next: Next) -> Invocation
-    ensures { result ≡ model.expecting invocation next }
-{
-    Invocation { next, ..invocation }
-}
-
-fn with_output(invocation: Invocation, place: usize) -> Invocation
-    ensures { result ≡ model.with_output invocation place }
-{
-    Invocation {
-        output: numbered(place),
-        next: Next::Any,
-        ..invocation
-    }
-}
-
-fn with_file(invocation: Invocation, place: usize) -> Invocation
-    ensures { result ≡ model.with_file invocation place }
-{
-    let files = match invocation.files {
-        Files::None => Files::One(place),
-        Files::One(first) | Files::Several(first) => Files::Several(first),
-    };
-    Invocation {
-        files,
-        ..invocation
-    }
-}
-
-fn first_word(invocation: Invocation, place: usize, word: Word) -> Invocation
-    ensures { result ≡ model.first_word invocation place word }
-{
-    match word {
-        Word::Command(command) => commanding(invocation, command, None),
-        Word::HelpOption => commanding(invocation, Command::Help, None),
-        Word::VersionOption => commanding(invocation, Command::Version, None),
-        Word::Name => faulty(invocation, place, Fault::NoSuchCommand),
-        _ => faulty(invocation, place, Fault::NoSuchOption),
-    }
-}
-
-fn only_file(invocation: Invocation, place: usize) -> Invocation
-    ensures { result ≡ model.only_file invocation place }
-{
-    match invocation.files {
-        Files::None => with_file(invocation, place),
-        _ => faulty(invocation, place, Fault::SecondFile),
-    }
-}
-
-fn help_topic(invocation: Invocation, place: usize, word: Word) -> Invocation
-    ensures { result ≡ model.help_topic invocation place word }
-{
-    match (invocation.topic, word) {
-        (Some(_), _) => faulty(invocation, place, Fault::NotExpected),
-        (None, Word::Command(command)) => commanding(invocation, Command::Help, Some(command)),
-        (None, _) => faulty(invocation, place, Fault::NoSuchCommand),
-    }
-}
-
-fn named(invocation: Invocation, command: Command, place: usize, word: Word) -> Invocation
-    ensures { result ≡ model.named invocation command place word }
-{
-    match command {
-        Command::Report => with_file(invocation, place),
-        Command::Mend => only_file(invocation, place),
-        Command::Help => help_topic(invocation, place, word),
-        Command::Version => faulty(invocation, place, Fault::NotExpected),
-    }
-}
-
-fn output(invocation: Invocation, place: usize) -> Invocation
-    ensures { result ≡ model.output invocation place }
-{
-    match invocation.output {
-        None => expecting(invocation, Next::Output),
-        Some(_) => faulty(invocation, place, Fault::SecondOutput),
-    }
-}
-
-fn option(invocation: Invocation, command: Command, place: usize, word: Word) -> Invocation
-    ensures { result ≡ model.option invocation command place word }
-{
-    match (word, command) {
-        (Word::HelpOption, _) => commanding(invocation, Command::Help, Some(command)),
-        (Word::EndOfOptions, _) => expecting(invocation, Next::Name),
-        (Word::OutputOption, Command::Mend) => output(invocation, place),
-        _ => faulty(invocation, place, Fault::NoSuchOption),
-    }
-}
-
 fn may_name(next: Next, word: Word) -> bool
     ensures { result ≡ model.may_name next word }
 {
@@ -211,21 +97,146 @@ fn may_name(next: Next, word: Word) -> bool
     )
 }
 
+impl Invocation {
+    fn faulty(self, place: usize, fault: Fault) -> Self
+        ensures { result ≡ model.faulty self place fault }
+    {
+        let misuse = Misuse {
+            fault,
+            place: numbered(place),
+        };
+        Self {
+            misuse: Some(misuse),
+            ..self
+        }
+    }
+
+    fn commanding(self, command: Command, topic: Option<Command>) -> Self
+        ensures { result ≡ model.commanding self command topic }
+    {
+        Self {
+            command: Some(command),
+            topic,
+            ..self
+        }
+    }
+
+    fn expecting(self, next: Next) -> Self
+        ensures { result ≡ model.expecting self next }
+    {
+        Self { next, ..self }
+    }
+
+    fn with_output(self, place: usize) -> Self
+        ensures { result ≡ model.with_output self place }
+    {
+        Self {
+            output: numbered(place),
+            next: Next::Any,
+            ..self
+        }
+    }
+
+    fn with_file(self, place: usize) -> Self
+        ensures { result ≡ model.with_file self place }
+    {
+        let files = match self.files {
+            Files::None => Files::One(place),
+            Files::One(first) | Files::Several(first) => Files::Several(first),
+        };
+        Self { files, ..self }
+    }
+
+    fn first_word(self, place: usize, word: Word) -> Self
+        ensures { result ≡ model.first_word self place word }
+    {
+        match word {
+            Word::Command(command) => self.commanding(command, None),
+            Word::HelpOption => self.commanding(Command::Help, None),
+            Word::VersionOption => self.commanding(Command::Version, None),
+            Word::Name => self.faulty(place, Fault::NoSuchCommand),
+            _ => self.faulty(place, Fault::NoSuchOption),
+        }
+    }
+
+    fn only_file(self, place: usize) -> Self
+        ensures { result ≡ model.only_file self place }
+    {
+        match self.files {
+            Files::None => self.with_file(place),
+            _ => self.faulty(place, Fault::SecondFile),
+        }
+    }
+
+    fn help_topic(self, place: usize, word: Word) -> Self
+        ensures { result ≡ model.help_topic self place word }
+    {
+        match (self.topic, word) {
+            (Some(_), _) => self.faulty(place, Fault::NotExpected),
+            (None, Word::Command(command)) => self.commanding(Command::Help, Some(command)),
+            (None, _) => self.faulty(place, Fault::NoSuchCommand),
+        }
+    }
+
+    fn named(self, command: Command, place: usize, word: Word) -> Self
+        ensures { result ≡ model.named self command place word }
+    {
+        match command {
+            Command::Report => self.with_file(place),
+            Command::Mend => self.only_file(place),
+            Command::Help => self.help_topic(place, word),
+            Command::Version => self.faulty(place, Fault::NotExpected),
+        }
+    }
+
+    fn output(self, place: usize) -> Self
+        ensures { result ≡ model.output self place }
+    {
+        match self.output {
+            None => self.expecting(Next::Output),
+            Some(_) => self.faulty(place, Fault::SecondOutput),
+        }
+    }
+
+    fn option(self, command: Command, place: usize, word: Word) -> Self
+        ensures { result ≡ model.option self command place word }
+    {
+        match (word, command) {
+            (Word::HelpOption, _) => self.commanding(Command::Help, Some(command)),
+            (Word::EndOfOptions, _) => self.expecting(Next::Name),
+            (Word::OutputOption, Command::Mend) => self.output(place),
+            _ => self.faulty(place, Fault::NoSuchOption),
+        }
+    }
+
+    fn next_word(self, command: Command, place: usize, word: Word) -> Self
+        ensures { result ≡ model.next_word self command place word }
+    {
+        if may_name(self.next, word) {
+            self.named(command, place, word)
+        } else {
+            self.option(command, place, word)
+        }
+    }
+
+    // What is missing where no argument is to come.
+    fn lacking(self) -> Option<Fault>
+        ensures { result ≡ model.lacking self.command self.next self.files }
+    {
+        match (self.command, self.next, self.files) {
+            (None, _, _) => Some(Fault::NoCommand),
+            (_, Next::Output, _) => Some(Fault::NoOutput),
+            (Some(Command::Report | Command::Mend), _, Files::None) => Some(Fault::NoFile),
+            _ => None,
+        }
+    }
+}
+
 // Whether an argument with this word, if all are in order, is one of the files that a report is asked on.
 pub fn reports_on(invocation: Invocation, word: Word) -> bool
     ensures { result ≡ model.reports_on invocation word }
 {
     invocation.command == Some(Command::Report) && may_name(invocation.next, word)
-}
-
-fn next_word(invocation: Invocation, command: Command, place: usize, word: Word) -> Invocation
-    ensures { result ≡ model.next_word invocation command place word }
-{
-    if may_name(invocation.next, word) {
-        named(invocation, command, place, word)
-    } else {
-        option(invocation, command, place, word)
-    }
 }
 
 // One argument more: its number, and what it is.
@@ -234,21 +245,9 @@ pub fn step(invocation: Invocation, place: usize, word: Word) -> Invocation
 {
     match (invocation.misuse, invocation.next, invocation.command) {
         (Some(_), _, _) => invocation,
-        (None, Next::Output, _) => with_output(invocation, place),
-        (None, _, None) => first_word(invocation, place, word),
-        (None, _, Some(command)) => next_word(invocation, command, place, word),
-    }
-}
-
-// What is missing where no argument is to come.
-fn lacking(invocation: Invocation) -> Option<Fault>
-    ensures { result ≡ model.lacking invocation.command invocation.next invocation.files }
-{
-    match (invocation.command, invocation.next, invocation.files) {
-        (None, _, _) => Some(Fault::NoCommand),
-        (_, Next::Output, _) => Some(Fault::NoOutput),
-        (Some(Command::Report | Command::Mend), _, Files::None) => Some(Fault::NoFile),
-        _ => None,
+        (None, Next::Output, _) => invocation.with_output(place),
+        (None, _, None) => invocation.first_word(place, word),
+        (None, _, Some(command)) => invocation.next_word(command, place, word),
     }
 }
 
@@ -256,8 +255,8 @@ fn lacking(invocation: Invocation) -> Option<Fault>
 pub fn finish(invocation: Invocation) -> Invocation
     ensures { result ≡ model.finish invocation }
 {
-    match (invocation.misuse, lacking(invocation)) {
-        (None, Some(fault)) => faulty(invocation, 0, fault),
+    match (invocation.misuse, invocation.lacking()) {
+        (None, Some(fault)) => invocation.faulty(0, fault),
         _ => invocation,
     }
 }
