@@ -7,7 +7,8 @@ mod mend;
 mod report;
 mod said;
 
-use arguments::{Command, Files, Invocation, Misuse};
+use arguments::{Command, Fault, Files, Invocation, Misuse};
+use asked::Argument;
 use exit_status::FAILED;
 use failure::Gone;
 use std::process::ExitCode;
@@ -30,11 +31,17 @@ fn run(rt: &HostRuntime, count: usize, invocation: Invocation) -> Result<u8, Gon
     }
 }
 
+// The argument at fault is not named where it is missing, or too long.
 fn refuse(rt: &HostRuntime, misuse: Misuse) -> Result<u8, Gone> {
-    let mut word = io::buffer();
-    let n = asked::argument_at_fault(rt, misuse.place, &mut word);
+    match misuse.place.and_then(|place| Argument::at(rt, place).ok()) {
+        Some(word) => refuse_word(rt, misuse.fault, word.as_bytes()),
+        None => refuse_word(rt, misuse.fault, b""),
+    }
+}
+
+fn refuse_word(rt: &HostRuntime, fault: Fault, word: &[u8]) -> Result<u8, Gone> {
     let mut line = [0u8; 4352];
-    let k = messages::fault(misuse.fault, &word[..n], &mut line);
+    let k = messages::fault(fault, word, &mut line);
     said::say(rt, &line[..k])?;
     Ok(FAILED)
 }
