@@ -1,18 +1,16 @@
 -- What writing comes to in each of its cases. Assumes nothing.
-use Rattle.std.proofs.Common.{◌≡◌, ℕ, ◌+◌, ◌<◌, ◌≤◌, Bool, ltb, List, [], ◌++◌, length, drop, sym, refl, ap, ◌∙◌, subst, zero-le, arith, le-ltb, lt-ltb}
+use Rattle.std.proofs.Common.{◌≡◌, ℕ, ◌+◌, ◌<◌, ◌≤◌, Bool, IfOk, Result, Ok, Err, ltb, List, [], ◌++◌, length, drop, sym, refl, ap, ◌∙◌, subst, arith, le-ltb, lt-ltb}
 use lib.Seq.{sets-eq}
 use Rattle.model.specs.Refusals.{too_large_lem, no_room_lem, Verdict, fine, refuse, ◌then◌, refuse_if}
 use Rattle.model.specs.Hex.{Outcome, hex_text, if_fine, write_verdict, hex_write}
 use Rattle.error.specs.declared.Refusal.{Refusal}
 use Rattle.error.specs.Refused.{as_verdict}
 use Rattle.put.specs.Put.{Put}
-use Rattle.intel_hex.specs.declared.HexResult.{HexResult}
-use Rattle.intel_hex.specs.declared.HexResult.TheVariants.{Done, Refused}
-use Rattle.intel_hex.specs.Answers.{as_hex, answer_of, filled, done_length}
+use Rattle.intel_hex.specs.Answers.{as_hex, answer_of, filled}
 
 -- the three clauses of a public function: its answer, its buffer, and that a length lies in the buffer
-abbrev pub Told : Outcome → HexResult → List ℕ → List ℕ → Type 0
-Told o r before after = (as_hex r ≡ answer_of o) × ((after ≡ filled o before) × (done_length r ≤ length after))
+abbrev pub Told : Outcome → Result ℕ Refusal → List ℕ → List ℕ → Type 0
+Told o r before after = (as_hex r ≡ answer_of o) × ((after ≡ filled o before) × IfOk r (λ n. n ≤ length after))
 
 abbrev pub refusing : Refusal → List ℕ → Outcome
 refusing r x = record { verdict = as_verdict r; bytes = x }
@@ -20,15 +18,15 @@ refusing r x = record { verdict = as_verdict r; bytes = x }
 abbrev pub giving : List ℕ → Outcome
 giving x = record { verdict = fine; bytes = x }
 
-pub told_refused : (o : Outcome) (r : Refusal) (before : List ℕ) → o ≡ refusing r [] → Told o (Refused r) before before
-told_refused o r before e = subst (λ (p : Outcome). Told p (Refused r) before before) (sym e) (refl, (refl, zero-le))
+pub told_refused : (o : Outcome) (r : Refusal) (before : List ℕ) → o ≡ refusing r [] → Told o (Err r) before before
+told_refused o r before e = subst (λ (p : Outcome). Told p (Err r) before before) (sym e) (refl, (refl, search))
 
-pub told_put : (o : Outcome) (x before after : List ℕ) (n : ℕ) → o ≡ giving x → length x ≤ length before → Put before 0 x n after → Told o (Done n) before after
+pub told_put : (o : Outcome) (x before after : List ℕ) (n : ℕ) → o ≡ giving x → length x ≤ length before → Put before 0 x n after → Told o (Ok n) before after
 told_put o x before after n e l q =
     let m : n ≡ length x = omega (arith, q.behind) in
     let k : 0 + length x ≡ length x = omega arith in
-    subst (λ (p : Outcome). Told p (Done n) before after) (sym e)
-    (ap (λ (k : ℕ). as_hex (Done k)) m, (q.stored ∙ sets-eq x before 0 (omega arith) ∙ ap (λ (j : ℕ). x ++ drop j before) k, omega (arith, q.long)))
+    subst (λ (p : Outcome). Told p (Ok n) before after) (sym e)
+    (ap (λ (k : ℕ). as_hex (Ok k)) m, (q.stored ∙ sets-eq x before 0 (omega arith) ∙ ap (λ (j : ℕ). x ++ drop j before) k, omega (arith, q.long)))
 
 -- ---- writing
 

@@ -1,5 +1,5 @@
 -- Pairs of digits put one after the other, and a record's sum. Assumes nothing.
-use Rattle.std.proofs.Common.{◌≡◌, ℕ, ◌+◌, ◌-◌, ◌*◌, ◌/◌, ◌%◌, ◌<◌, ◌≤◌, List, [], ◌∷◌, ◌++◌, length, get_or, drop, set, sym, refl, ap, ◌∙◌, subst, ap₂, append_assoc, zero-le, add-one, arith, length-append, drop_of_length-le, drop-cons}
+use Rattle.std.proofs.Common.{◌≡◌, ℕ, ◌+◌, ◌-◌, ◌*◌, ◌/◌, ◌%◌, ◌<◌, ◌≤◌, List, [], ◌∷◌, ◌++◌, length, get_or, drop, set, fold, sym, refl, ap, ◌∙◌, subst, ap₂, append_assoc, zero-add, zero-le, add-one, arith, length-append, drop_of_length-le, drop-cons}
 use Rattle.model.specs.Hex.{digit_of, pairs_of, total, record_bytes, sum_byte, record_line}
 use Rattle.hex_laws.proofs.HexLength.{length_pairs, text_length_lem}
 use Rattle.hex_laws.proofs.HexLines.{total_append}
@@ -8,73 +8,51 @@ use Rattle.put.proofs.PutLaw.{Going, begin, go_on, go_byte, fits, gone}
 
 -- ---- pair by pair: i bytes of bs are put
 
-pub record Pairwise (o₀ : List ℕ) (p : ℕ) (bs o : List ℕ) (i : ℕ) : Type 0 where
+pub record Pairwise (o₀ : List ℕ) (p₀ : ℕ) (bs o : List ℕ) (p i : ℕ) : Type 0 where
   pub some : i ≤ length bs
-  pub going : Going o₀ p (pairs_of bs) o (p + 2 * i) (pairs_of (drop i bs))
+  pub going : Going o₀ p₀ (pairs_of bs) o p (pairs_of (drop i bs))
 
-pub none_paired : (o : List ℕ) (p : ℕ) (bs : List ℕ) → p + 2 * length bs ≤ length o → Pairwise o p bs o 0
-none_paired o p bs h =
-    let e : p ≡ p + 2 * 0 = omega arith in
-    record { some = zero-le; going = subst (λ (k : ℕ). Going o p (pairs_of bs) o k (pairs_of bs)) e (begin o p (pairs_of bs) (omega (arith, length_pairs bs))) }
+pub none_paired : (o : List ℕ) (p : ℕ) (bs : List ℕ) → p + 2 * length bs ≤ length o → Pairwise o p bs o p 0
+none_paired o p bs h = record { some = zero-le; going = begin o p (pairs_of bs) (omega (arith, length_pairs bs)) }
 
-module _ {o₀ : List ℕ} {p : ℕ} {bs : List ℕ} (o : List ℕ) (i : ℕ) (g : Pairwise o₀ p bs o i) where
+module _ {o₀ : List ℕ} {p₀ : ℕ} {bs o : List ℕ} {p i : ℕ} (g : Pairwise o₀ p₀ bs o p i) where
   pairs_left : i < length bs → pairs_of (drop i bs) ≡ digit_of (get_or bs i 0 / 16) ∷ (digit_of (get_or bs i 0 % 16) ∷ pairs_of (drop (i + 1) bs))
   unfolding pairs_of
   pairs_left l = rw (add-one) (ap pairs_of (drop-cons bs i 0 l))
 
-  pub pair_room : i < length bs → p + 2 * i + 1 < length o
+  pub pair_room : i < length bs → p + 1 < length o
   pair_room l = omega (arith, g.going.room, ap length (pairs_left l))
 
-  pub pair_put : (x y : ℕ) → i < length bs → x ≡ digit_of (get_or bs i 0 / 16) → y ≡ digit_of (get_or bs i 0 % 16)
-      → Pairwise o₀ p bs (set (set o (p + 2 * i) x) (p + 2 * i + 1) y) (i + 1)
-  pair_put x y l e f =
+  pub pair_put : {x y : ℕ} → i < length bs → x ≡ digit_of (get_or bs i 0 / 16) → y ≡ digit_of (get_or bs i 0 % 16)
+      → Pairwise o₀ p₀ bs (set (set o p x) (p + 1) y) (p + 2) (i + 1)
+  pair_put {x} {y} l e f =
       let r : List ℕ = pairs_of (drop (i + 1) bs) in
       let c : pairs_of (drop i bs) ≡ x ∷ (y ∷ r) = rw (e, f) (pairs_left l) in
-      let m : p + 2 * i + 1 + 1 ≡ p + 2 * (i + 1) = omega arith in
+      let m : p + 1 + 1 ≡ p + 2 = omega arith in
       record {
         some = omega arith;
-        going = subst (λ (k : ℕ). Going o₀ p (pairs_of bs) (set (set o (p + 2 * i) x) (p + 2 * i + 1) y) k r) m
-            (go_byte (set o (p + 2 * i) x) (p + 2 * i + 1) y r (go_byte o (p + 2 * i) x (y ∷ r) (subst (Going o₀ p (pairs_of bs) o (p + 2 * i)) c g.going)));
+        going = subst (λ (k : ℕ). Going o₀ p₀ (pairs_of bs) (set (set o p x) (p + 1) y) k r) m
+            (go_byte (set o p x) (p + 1) y r (go_byte o p x (y ∷ r) (subst (Going o₀ p₀ (pairs_of bs) o p) c g.going)));
       }
 
-  pub all_paired : length bs ≤ i → Put o₀ p (pairs_of bs) (p + 2 * i) o
+  pub all_paired : length bs ≤ i → Put o₀ p₀ (pairs_of bs) p o
   unfolding pairs_of
-  all_paired l = gone o (p + 2 * i) (subst (Going o₀ p (pairs_of bs) o (p + 2 * i)) (ap pairs_of (drop_of_length-le bs l)) g.going)
+  all_paired l = gone o p (subst (Going o₀ p₀ (pairs_of bs) o p) (ap pairs_of (drop_of_length-le bs l)) g.going)
 
--- ---- the sum, byte by byte, without what passes 255
+-- ---- sums without what passes 255
 
-pub record Summing (bs : List ℕ) (sum i : ℕ) : Type 0 where
-  pub some : i ≤ length bs
-  pub small : sum < 256
-  pub left : (sum + total (drop i bs)) % 256 ≡ total bs % 256
-
-pub none_summed : (bs : List ℕ) → Summing bs 0 0
-none_summed bs = record { some = zero-le; small = omega arith; left = omega arith }
-
-pub one_summed : (bs : List ℕ) (sum i s : ℕ) → Summing bs sum i → i < length bs → s ≡ (sum + get_or bs i 0) % 256 → Summing bs s (i + 1)
+pub low_fold : (s : ℕ) (bs : List ℕ) → s < 256 → fold (λ n b. (n + b) % 256) s bs ≡ (s + total bs) % 256
 unfolding total
-one_summed bs sum i s g l e =
-    let c : total (drop i bs) ≡ get_or bs i 0 + total (drop (i + 1) bs) = rw add-one (ap total (drop-cons bs i 0 l)) in
-    record { some = omega arith; small = omega arith; left = omega (arith, g.left) }
+low_fold s [] h = omega arith
+low_fold s (b ∷ bs) h = low_fold ((s + b) % 256) bs (omega arith) ∙ omega arith
 
-pub all_summed : (bs : List ℕ) (sum i : ℕ) → Summing bs sum i → length bs ≤ i → sum ≡ total bs % 256
-unfolding total
-all_summed bs sum i g l =
-    let c : total (drop i bs) ≡ 0 = ap total (drop_of_length-le bs l) in
-    omega (arith, g.left, g.small)
-
--- with the sum of two parts a byte comes to a multiple of 256
-pub sum_of_parts : (a b : List ℕ) (r : ℕ) → (r + (total a % 256 + total b % 256) % 256) % 256 ≡ 0 → r < 256 → r ≡ sum_byte (a ++ b)
+-- what comes to a multiple of 256 with the sum of two parts
+pub sum_of_parts : (a b : List ℕ) → (0 + (256 - (total a % 256 + total b % 256) % 256)) % 256 ≡ sum_byte (a ++ b)
 unfolding sum_byte
-sum_of_parts a b r f h =
-    let t : (total a % 256 + total b % 256) % 256 ≡ total (a ++ b) % 256 = rw (total_append a b) (split_sum (total a) (total b)) in
-    less (total (a ++ b) % 256) r (omega arith) (rw t at f) h
+sum_of_parts a b = rw (zero-add, total_append a b) (ap (λ (n : ℕ). (256 - n) % 256) (split_sum (total a) (total b)))
   where
     split_sum : (m n : ℕ) → (m % 256 + n % 256) % 256 ≡ (m + n) % 256
     split_sum m n = omega arith
-
-    less : (m r : ℕ) → m < 256 → (r + m) % 256 ≡ 0 → r < 256 → r ≡ (256 - m) % 256
-    less m r small f h = omega arith
 
 -- ---- a line: the colon, three runs of pairs, and the line feed
 

@@ -1,11 +1,11 @@
 -- Lines put one after the other. Assumes nothing.
-use Rattle.std.proofs.Common.{◌≡◌, ℕ, ◌+◌, ◌-◌, ◌*◌, ◌/◌, ◌%◌, ◌<◌, ◌≤◌, Bool, cond, List, [], ◌∷◌, ◌++◌, length, take, drop, sym, ap, ◌∙◌, subst, append_assoc, arith, length-drop, length-take-le, take_all, le-ltb, lt-ltb}
+use Rattle.std.proofs.Common.{◌≡◌, ℕ, ◌+◌, ◌*◌, ◌/◌, ◌%◌, ◌<◌, ◌≤◌, List, [], ◌∷◌, ◌++◌, length, min, take, drop, refl, sym, ap, ap₂, ◌∙◌, subst, append_assoc, arith, length-append, length-drop}
 use native.Mathlib.Decide.{dec_lt}
+use Rattle.std.proofs.lemmas.List.{take_at, drop_at, drop-drop, take_min, drop_all, nil_from_length}
 use Rattle.model.specs.Programs.{lines}
 use Rattle.model.specs.Hex.{record_line, data_type, end_type, upper_type, upper_lines, end_line, hex_text}
 use Rattle.put.specs.Put.{Put}
 use Rattle.put.proofs.PutLaw.{Going, begin, go_on, fits, last}
-use Rattle.intel_hex.specs.Steps.{line_end}
 use Rattle.hex_laws.proofs.HexLength.{text_upper, text_no_upper, text_from, text_start, text_step, text_end}
 use Rattle.intel_hex.proofs.RecordLaw.{line_of, length_line}
 
@@ -19,22 +19,6 @@ line_step x a l = text_step x a l ∙ ap (λ (t : List ℕ). lines (upper_lines 
 end_step : (x : List ℕ) (a : ℕ) → length x ≤ a → text_from x a ≡ line_of 0 end_type []
 unfolding end_line
 end_step x a l = text_end x a l
-
--- the bytes up to a line's end are sixteen, or all that are left
-pub line_part : (x : List ℕ) (a r : ℕ) → a < length x → r ≡ line_end a (length x) → take (r - a) (drop a x) ≡ take 16 (drop a x)
-line_part x a r l e = by_test (dec_lt (length x - a) 16)
-  where
-    by_test : Dec (length x - a < 16) → take (r - a) (drop a x) ≡ take 16 (drop a x)
-    by_test (yes h) =
-        let m : r ≡ length x = e ∙ ap (λ (t : Bool). cond t (length x) (a + 16)) (lt-ltb (length x - a) 16 h) in
-        take_all (r - a) (drop a x) (omega (arith, length-drop a x)) ∙ sym (take_all 16 (drop a x) (omega (arith, length-drop a x)))
-    by_test (no h) =
-        let m : r ≡ a + 16 = e ∙ ap (λ (t : Bool). cond t (length x) (a + 16)) (le-ltb (length x - a) 16 (omega arith)) in
-        let k : r - a ≡ 16 = omega arith in
-        ap (λ (n : ℕ). take n (drop a x)) k
-
-pub line_short : (x : List ℕ) (a r : ℕ) → r ≤ length x → r ≤ a + 16 → length (take (r - a) (drop a x)) ≤ 255
-line_short x a r h k = omega (arith, length-take-le (r - a) (drop a x) (omega (arith, length-drop a x)))
 
 -- ---- the line before a further 65,536 bytes, or none
 
@@ -86,3 +70,60 @@ module _ {o₀ x : List ℕ} (o : List ℕ) (p a : ℕ) (g : Written o₀ x o p 
 
   pub all_written : {r : ℕ} {o' : List ℕ} → Put o p (line_of 0 end_type []) r o' → Put o₀ 0 (hex_text x) r o'
   all_written q = last o p (line_of 0 end_type []) ending q
+
+-- ---- the same while the bytes are cut into lines: `left` is what is left to cut
+
+pub record Lined (o₀ x o : List ℕ) (p a size : ℕ) (left : List ℕ) : Type 0 where
+  pub sixteen : size ≡ 16
+  pub is_left : left ≡ drop a x
+  pub written : Written o₀ x o p a
+
+-- a line is cut off
+module _ {o₀ x o : List ℕ} {p a size : ℕ} {left : List ℕ} (g : Lined o₀ x o p a size left) (line rest : List ℕ) (e : left ≡ line ++ rest) (l : length line ≡ min size (length left)) (more : 0 < length left) where
+  pub inside : a < length x
+  inside = omega (arith, more, ap length g.is_left, length-drop a x)
+
+  cut : drop a x ≡ line ++ rest
+  cut = sym g.is_left ∙ e
+
+  long : length line ≡ min 16 (length (drop a x))
+  long = l ∙ ap₂ min g.sixteen (ap length g.is_left)
+
+  line_part : line ≡ take 16 (drop a x)
+  line_part =
+      sym (take_at line rest (length line) refl) ∙ ap (take (length line)) (sym cut)
+      ∙ ap (λ (n : ℕ). take n (drop a x)) long ∙ take_min 16 (drop a x)
+
+  rest_part : rest ≡ drop (a + 16) x
+  rest_part = by_test (dec_lt (length (drop a x)) 16)
+    where
+      by_test : Dec (length (drop a x) < 16) → rest ≡ drop (a + 16) x
+      by_test (yes h) =
+          let n : length rest ≡ 0 = omega (arith, long, ap length cut, length-append line rest) in
+          nil_from_length rest n ∙ sym (drop_all (a + 16) x (omega (arith, length-drop a x, h)))
+      by_test (no h) =
+          let n : length line ≡ 16 = omega (arith, long) in
+          sym (drop_at line rest 16 n) ∙ ap (drop 16) (sym cut) ∙ drop-drop 16 a x
+
+  pub before_upper : p + length (lines (upper_lines a)) ≤ length o
+  before_upper = upper_room o p a g.written inside
+
+  pub before_line : {p₁ : ℕ} {o₁ : List ℕ} → Put o p (lines (upper_lines a)) p₁ o₁ → p₁ + 12 + 2 * length line ≤ length o₁
+  before_line u = line_room o p a g.written inside u line line_part
+
+  pub short : length line ≤ 255
+  short = omega (arith, long)
+
+  pub after_line : {p₁ p₂ size' : ℕ} {o₁ o₂ : List ℕ} → Put o p (lines (upper_lines a)) p₁ o₁ → Put o₁ p₁ (line_of (a % 65536) data_type line) p₂ o₂ → size' ≡ size → Lined o₀ x o₂ p₂ (a + 16) size' rest
+  after_line u q f = record { sixteen = f ∙ g.sixteen; is_left = rest_part; written = line_written o p a g.written inside u line line_part q }
+
+-- nothing is left
+module _ {o₀ x o : List ℕ} {p a size : ℕ} {left : List ℕ} (g : Lined o₀ x o p a size left) (none : length left ≡ 0) where
+  outside : length x ≤ a
+  outside = omega (arith, none, ap length g.is_left, length-drop a x)
+
+  pub before_end : p + 12 ≤ length o
+  before_end = end_room o p a g.written outside
+
+  pub after_end : {r : ℕ} {o' : List ℕ} → Put o p (line_of 0 end_type []) r o' → Put o₀ 0 (hex_text x) r o'
+  after_end q = all_written o p a g.written outside q

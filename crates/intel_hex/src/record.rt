@@ -8,7 +8,7 @@ fn digit(d: u8) -> u8
     requires { d < 16 }
     ensures { result ≡ digit_of d }
 {
-    if d < 10 { 48 + d } else { 55 + d }
+    if d < 10 { b'0' + d } else { b'A' + (d - 10) }
 }
 
 // Bytes in pairs of digits.
@@ -16,41 +16,37 @@ fn put_pairs(text: &mut [u8], at: usize, bytes: &[u8]) -> usize
     requires { at + 2 * length bytes.now ≤ length text.old }
     ensures { Put text.old at (pairs_of bytes.now) result text.new }
 {
-    let mut i: usize = 0;
-    while i < bytes.len() {
-        let byte = bytes[i];
-        text[at + 2 * i] = digit(byte / 16);
-        text[at + 2 * i + 1] = digit(byte % 16);
-        i += 1;
+    let mut next = at;
+    for byte in bytes {
+        text[next] = digit(byte / 16);
+        text[next + 1] = digit(byte % 16);
+        next += 2;
     }
-    at + 2 * i
+    next
 }
 
 // The sum of bytes, without what passes 255.
 fn low_total(bytes: &[u8]) -> u8
     ensures { result ≡ total bytes.now % 256 }
 {
-    let mut sum: u8 = 0;
-    let mut i: usize = 0;
-    while i < bytes.len() {
-        sum = std::num::wrapping_add_u8(sum, bytes[i]);
-        i += 1;
-    }
-    sum
+    bytes
+        .iter()
+        .fold(0, |sum: u8, byte| sum.wrapping_add(*byte))
 }
 
 // What stands before a record's data.
 fn head(count: u8, address: u16, kind: u8) -> [u8; 4]
     ensures { result ≡ count ∷ address / 256 ∷ address % 256 ∷ kind ∷ [] }
 {
-    [count, (address / 256) as u8, (address % 256) as u8, kind]
+    let [high, low] = address.to_be_bytes();
+    [count, high, low, kind]
 }
 
 fn sum_byte(head: &[u8; 4], bytes: &[u8]) -> [u8; 1]
     ensures { result ≡ sum_byte (head.now ++ bytes.now) ∷ [] }
 {
-    let sum = std::num::wrapping_add_u8(low_total(head), low_total(bytes));
-    [std::num::wrapping_sub_u8(0, sum)]
+    let sum = low_total(head).wrapping_add(low_total(bytes));
+    [0u8.wrapping_sub(sum)]
 }
 
 // A line with its line feed.

@@ -1,12 +1,11 @@
 // The hex text of a byte string, put into a lent buffer. (FORMAT 15)
-ghost use Rattle.std.specs.Prelude.{◌≡◌, ◌+◌, ◌-◌, ◌/◌, ◌%◌, ◌<◌, ◌≤◌, [], ◌∷◌, length};
+ghost use Rattle.std.specs.Prelude.{◌≡◌, ◌+◌, ◌-◌, ◌/◌, ◌%◌, ◌<◌, ◌≤◌, [], ◌∷◌, length, IfOk};
 ghost use Rattle.model.specs.Programs.{lines};
 ghost use Rattle.model.specs.Hex.{upper_lines, hex_text, hex_write};
 ghost use Rattle.put.specs.Put.{Put};
-ghost use Rattle.intel_hex.specs.Answers.{as_hex, answer_of, filled, done_length};
-ghost use Rattle.intel_hex.specs.Steps.{line_end, text_length};
+ghost use Rattle.intel_hex.specs.Answers.{as_hex, answer_of, filled};
+ghost use Rattle.intel_hex.specs.Steps.{text_length};
 
-use crate::HexResult;
 use crate::record::put_record;
 use error::Refusal;
 use layout::MAX_IMAGE_BYTES;
@@ -27,8 +26,7 @@ fn upper_half(address: usize) -> [u8; 2]
     requires { address < 4294967296 }
     ensures { result ≡ address / 65536 / 256 ∷ address / 65536 % 256 ∷ [] }
 {
-    let upper = address / HALF;
-    [(upper / 256) as u8, (upper % 256) as u8]
+    ((address / HALF) as u16).to_be_bytes()
 }
 
 // The line that stands before each further 65,536 bytes.
@@ -45,29 +43,15 @@ fn put_upper(text: &mut [u8], at: usize, address: usize) -> usize
     put_record(text, at, 0, UPPER, &upper_half(address))
 }
 
-// Where a line's bytes end that start at a place.
-fn line_end(from: usize, length: usize) -> usize
-    requires { from < length }
-    ensures is { result ≡ line_end from length }
-    ensures fits { (from ≤ result) × (result ≤ length) × (result ≤ from + 16) }
-{
-    if length - from < LINE_BYTES {
-        length
-    } else {
-        from + LINE_BYTES
-    }
-}
-
 fn put_text(text: &mut [u8], bytes: &[u8]) -> usize
     requires { (length (hex_text bytes.now) ≤ length text.old) × (length bytes.now ≤ 8388608) }
     ensures { Put text.old 0 (hex_text bytes.now) result text.new }
 {
     let mut next: usize = 0;
     let mut from: usize = 0;
-    while from < bytes.len() {
-        let line = put_upper(text, next, from);
-        let end = line_end(from, bytes.len());
-        next = put_record(text, line, (from % HALF) as u16, DATA, &bytes[from..end]);
+    for line in bytes.chunks(LINE_BYTES) {
+        let data = put_upper(text, next, from);
+        next = put_record(text, data, (from % HALF) as u16, DATA, line);
         from += LINE_BYTES;
     }
     put_record(text, next, 0, END, b"")
@@ -91,16 +75,16 @@ fn text_length(n: usize) -> usize
 }
 
 // The text goes to the front of `text`, and the answer is its length; a refusal leaves every byte of `text` as it was.
-pub fn write(bytes: &[u8], text: &mut [u8]) -> HexResult
+pub fn write(bytes: &[u8], text: &mut [u8]) -> Result<usize, Refusal>
     ensures is { as_hex result ≡ answer_of (hex_write bytes.now (length text.old)) }
     ensures leaves { text.new ≡ filled (hex_write bytes.now (length text.old)) text.old }
-    ensures fits { done_length result ≤ length text.new }
+    ensures fits { IfOk result (λ n. n ≤ length text.new) }
 {
     if bytes.len() > MAX_IMAGE_BYTES {
-        return HexResult::Refused(Refusal::TooLarge);
+        return Err(Refusal::TooLarge);
     }
     if text.len() < text_length(bytes.len()) {
-        return HexResult::Refused(Refusal::NoRoom);
+        return Err(Refusal::NoRoom);
     }
-    HexResult::Done(put_text(text, bytes))
+    Ok(put_text(text, bytes))
 }

@@ -17,11 +17,11 @@ ghost use Rattle.scan.specs.Answers.{as_scan};
 ghost use Rattle.kw.specs.Writes.{number_in, answer_in, write_number, write_answer};
 ghost use Rattle.kw.specs.Numbers.{refusal_number, parse_numbers, scan_numbers, report_numbers, mending_numbers, mend_number, mend_numbers};
 
+use error::Refusal;
 use mending::{MendResult, Mending};
 use plan::Row;
 use scan::ScanResult;
 use view::ParseResult;
-use writer::WriteResult;
 
 // {1, words, corrected, uncorrectable}, or zeros for nothing.
 fn report_numbers(scan: ScanResult) -> [u64; 4]
@@ -115,15 +115,15 @@ pub extern "C" fn kw_mend(image: &mut [u8], answer: &mut [u64; 6]) -> u32
     }
 }
 
-fn write_numbers(res: WriteResult, answer: &mut [u64; 1]) -> u32
+fn write_numbers(res: Result<usize, Refusal>, answer: &mut [u64; 1]) -> u32
     ensures { (result ≡ number_in (as_written res)) × (answer.new ≡ answer_in (as_written res)) }
 {
     match res {
-        WriteResult::Written(n) => {
+        Ok(n) => {
             *answer = [n as u64];
             0
         }
-        WriteResult::Refused(refusal) => {
+        Err(refusal) => {
             *answer = [refusal.detail()];
             refusal.number()
         }

@@ -1,8 +1,5 @@
-pub mod CheckingLaw
-pub mod KeptLaw
-pub mod LoopLaw
+pub mod CheckLaw
 pub mod MarksLaw
 pub mod OneAnswer
 pub mod RowsLaw
-pub mod RunLaw
 pub mod SizesLaw

@@ -1,5 +1,5 @@
 -- The marks of the kinds that were seen. Assumes nothing.
-use Rattle.std.proofs.Common.{◌≡◌, ℕ, zero, suc, ◌/◌, ◌%◌, ◌^◌, ◌<◌, ◌≤◌, Bool, true, false, ◌||◌, eqb, List, length, get_or, set, replicate, sym, refl, ap, ◌∙◌, arith, get_or-set_other, get_or-set_same, eq-eqb, ne_eqb, eqb-true}
+use Rattle.std.proofs.Common.{◌≡◌, ℕ, zero, suc, ◌/◌, ◌%◌, ◌^◌, ◌<◌, Bool, true, false, ◌||◌, eqb, List, length, get_or, set, replicate, sym, refl, ap, ◌∙◌, arith, get_or-set_other, get_or-set_same, eq-eqb, ne_eqb, eqb-true}
 use mathlib.Core.Bool.{or-true, or-false}
 use borrow.Author.Tests.{eqb-false}
 use lib.Bits.{bit_or}
@@ -22,9 +22,9 @@ same_place : (k x : ℕ) → k / 64 ≡ x / 64 → k % 64 ≡ x % 64 → k ≡ x
 same_place k x e f = omega (arith, e, f)
 
 -- the mark of k is set, and every other kind's stays
-pub mark_sets : (plan : List ℕ) (k x : ℕ) → k / 64 < length plan → marked (with_mark plan k) x ≡ (eqb k x || marked plan x)
+pub mark_sets : (seen : List ℕ) (k x : ℕ) → k / 64 < length seen → marked (with_mark seen k) x ≡ (eqb k x || marked seen x)
 unfolding marked with_mark
-mark_sets plan k x l = go (eqb (k / 64) (x / 64)) refl (eqb (k % 64) (x % 64)) refl
+mark_sets seen k x l = go (eqb (k / 64) (x / 64)) refl (eqb (k % 64) (x % 64)) refl
   where
     low : (b : Bool) → k / 64 ≡ x / 64 → (t : Bool) → eqb (k % 64) (x % 64) ≡ t → b || bit (2 ^ (k % 64)) (x % 64) ≡ eqb k x || b
     low b q true f =
@@ -37,24 +37,19 @@ mark_sets plan k x l = go (eqb (k / 64) (x / 64)) refl (eqb (k % 64) (x % 64)) r
         ∙ ap (λ (z : Bool). z || b) (sym (ne_eqb k x (λ z. r (ap (λ (n : ℕ). n % 64) z))))
 
     go : (s : Bool) → eqb (k / 64) (x / 64) ≡ s → (t : Bool) → eqb (k % 64) (x % 64) ≡ t
-        → bit (get_or (set plan (k / 64) (bit_or (get_or plan (k / 64) 0) (2 ^ (k % 64)))) (x / 64) 0) (x % 64) ≡ (eqb k x || bit (get_or plan (x / 64) 0) (x % 64))
+        → bit (get_or (set seen (k / 64) (bit_or (get_or seen (k / 64) 0) (2 ^ (k % 64)))) (x / 64) 0) (x % 64) ≡ (eqb k x || bit (get_or seen (x / 64) 0) (x % 64))
     go false e t f =
         let h : k / 64 ≡ x / 64 → ⊥ = eqb-false (k / 64) (x / 64) e in
-        ap (λ (n : ℕ). bit n (x % 64)) (get_or-set_other plan (k / 64) (x / 64) (bit_or (get_or plan (k / 64) 0) (2 ^ (k % 64))) 0 (λ z. h (sym z)))
-        ∙ ap (λ (b : Bool). b || bit (get_or plan (x / 64) 0) (x % 64)) (sym (ne_eqb k x (λ z. h (ap (λ (n : ℕ). n / 64) z))))
+        ap (λ (n : ℕ). bit n (x % 64)) (get_or-set_other seen (k / 64) (x / 64) (bit_or (get_or seen (k / 64) 0) (2 ^ (k % 64))) 0 (λ z. h (sym z)))
+        ∙ ap (λ (b : Bool). b || bit (get_or seen (x / 64) 0) (x % 64)) (sym (ne_eqb k x (λ z. h (ap (λ (n : ℕ). n / 64) z))))
     go true e t f =
         let q : k / 64 ≡ x / 64 = eqb-true (k / 64) (x / 64) e in
-        ap (λ (n : ℕ). bit (get_or (set plan (k / 64) (bit_or (get_or plan (k / 64) 0) (2 ^ (k % 64)))) n 0) (x % 64)) (sym q)
-        ∙ ap (λ (n : ℕ). bit n (x % 64)) (get_or-set_same plan (k / 64) (bit_or (get_or plan (k / 64) 0) (2 ^ (k % 64))) 0 l)
-        ∙ bit_or_lem (get_or plan (k / 64) 0) (2 ^ (k % 64)) (x % 64)
-        ∙ ap (λ (n : ℕ). bit (get_or plan n 0) (x % 64) || bit (2 ^ (k % 64)) (x % 64)) q
-        ∙ low (bit (get_or plan (x / 64) 0) (x % 64)) q t f
+        ap (λ (n : ℕ). bit (get_or (set seen (k / 64) (bit_or (get_or seen (k / 64) 0) (2 ^ (k % 64)))) n 0) (x % 64)) (sym q)
+        ∙ ap (λ (n : ℕ). bit n (x % 64)) (get_or-set_same seen (k / 64) (bit_or (get_or seen (k / 64) 0) (2 ^ (k % 64))) 0 l)
+        ∙ bit_or_lem (get_or seen (k / 64) 0) (2 ^ (k % 64)) (x % 64)
+        ∙ ap (λ (n : ℕ). bit (get_or seen n 0) (x % 64) || bit (2 ^ (k % 64)) (x % 64)) q
+        ∙ low (bit (get_or seen (x / 64) 0) (x % 64)) q t f
 
--- a row kept is no mark
-pub mark_stays : (plan : List ℕ) (p v x : ℕ) → x < 0x8000 → 512 ≤ p → marked (set plan p v) x ≡ marked plan x
+pub no_marks : (x : ℕ) → x < 0x8000 → marked (replicate 1024 0) x ≡ false
 unfolding marked
-mark_stays plan p v x h l = ap (λ (n : ℕ). bit n (x % 64)) (get_or-set_other plan p (x / 64) v 0 (λ e. omega arith))
-
-pub no_marks : (x : ℕ) → x < 0x8000 → marked (replicate 1536 0) x ≡ false
-unfolding marked
-no_marks x h = ap (λ (n : ℕ). bit n (x % 64)) (get_or-replicate 1536 (x / 64) 0 0 (omega arith)) ∙ bit_none (x % 64)
+no_marks x h = ap (λ (n : ℕ). bit n (x % 64)) (get_or-replicate 1024 (x / 64) 0 0 (omega arith)) ∙ bit_none (x % 64)

@@ -1,33 +1,35 @@
 -- The rows from i on, one row at a time: what a loop over them needs. Assumes nothing.
 use Rattle.std.proofs.Common.{◌≡◌, ℕ, suc, ◌+◌, ◌<◌, ◌≤◌, cond, List, [], ◌∷◌, length, get_or, drop, sym, refl, ap, ◌∙◌, add-one, drop_of_length-le, drop-cons}
-use Rattle.model.specs.Writer.{Row, protected_row, plane_words, row_words_lem, planes_words}
-use Rattle.plan.specs.Kept.{words_in, row_of, rows_of}
+use Rattle.model.specs.Writer.{protected_row, plane_words, row_words_lem, planes_words}
+use Rattle.plan.specs.declared.rows.Row.{Row}
+use Rattle.plan.specs.Rows.{as_row, as_plan}
 
-pub length_rows_of : (xs : List ℕ) → length (rows_of xs) ≡ length xs
-unfolding rows_of
-length_rows_of [] = refl
-length_rows_of (x ∷ xs) = ap suc (length_rows_of xs)
+-- what stands past the end
+abbrev pub no_row : Row
+no_row = record { kind = 0; flags = 0; words = 0 }
 
-module _ (xs : List ℕ) (i : ℕ) where
-  abbrev x : ℕ
-  x = get_or xs i 0
+abbrev pub row_at : List Row → ℕ → Row
+row_at rows i = get_or rows i no_row
 
-  abbrev rest : List Row
-  rest = rows_of (drop (i + 1) xs)
+pub length_plan : (rs : List Row) → length (as_plan rs) ≡ length rs
+unfolding as_plan
+length_plan [] = refl
+length_plan (r ∷ rs) = ap suc (length_plan rs)
 
-  pub rows_end : length xs ≤ i → rows_of (drop i xs) ≡ []
-  unfolding rows_of
-  rows_end l = ap rows_of (drop_of_length-le xs l)
+module _ (rows : List Row) (i : ℕ) where
+  pub rows_end : length rows ≤ i → as_plan (drop i rows) ≡ []
+  unfolding as_plan
+  rows_end l = ap as_plan (drop_of_length-le rows l)
 
-  module _ (l : i < length xs) where
-    pub rows_next : rows_of (drop i xs) ≡ row_of x ∷ rest
-    unfolding rows_of
-    rows_next = ap rows_of (drop-cons xs i 0 l) ∙ ap (λ (k : ℕ). row_of x ∷ rows_of (drop k xs)) (sym (add-one i))
+  module _ (l : i < length rows) where
+    pub rows_next : as_plan (drop i rows) ≡ as_row (row_at rows i) ∷ as_plan (drop (i + 1) rows)
+    unfolding as_plan
+    rows_next = ap as_plan (drop-cons rows i no_row l) ∙ ap (λ (k : ℕ). as_row (row_at rows i) ∷ as_plan (drop k rows)) (sym (add-one i))
 
-    pub words_next : row_words_lem (rows_of (drop i xs)) ≡ words_in x + row_words_lem rest
+    pub words_next : row_words_lem (as_plan (drop i rows)) ≡ (row_at rows i).words + row_words_lem (as_plan (drop (i + 1) rows))
     unfolding row_words_lem
     words_next = ap row_words_lem rows_next
 
-    pub planes_next : planes_words (rows_of (drop i xs)) ≡ cond (protected_row (row_of x)) (plane_words (row_of x)) 0 + planes_words rest
+    pub planes_next : planes_words (as_plan (drop i rows)) ≡ cond (protected_row (as_row (row_at rows i))) (plane_words (as_row (row_at rows i))) 0 + planes_words (as_plan (drop (i + 1) rows))
     unfolding planes_words
     planes_next = ap planes_words rows_next

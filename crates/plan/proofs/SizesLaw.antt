@@ -5,7 +5,7 @@ use Rattle.model.specs.Refusals.{fine, refuse, bad_plan, too_large_lem, no_room_
 use Rattle.model.specs.Writer.{Row, row_words_lem, image_length}
 use Rattle.model.proofs.ParseLaw.{not_refused}
 use Rattle.lemmas.proofs.VerdictLaw.{passed}
-use Rattle.plan.specs.Kept.{sizes_verdict}
+use Rattle.plan.specs.Sizes.{sizes_verdict}
 
 module _ (rs : List Row) (payload : List ℕ) (room : ℕ) where
   pub other_length : (length payload ≡ 8 * row_words_lem rs → ⊥) → sizes_verdict rs payload room ≡ refuse bad_plan (length rs)

@@ -3,56 +3,46 @@ ghost use Rattle.std.specs.Prelude.{◌≡◌, ◌*◌, ◌≤◌, length};
 ghost use Rattle.model.specs.Writer.{row_words_lem, planes_words};
 ghost use Rattle.model.specs.Writer as model;
 ghost use Rattle.error.specs.Refused.{as_check};
-ghost use Rattle.plan.specs.Kept.{rows_of, sizes_verdict};
+ghost use Rattle.plan.specs.Rows.{as_plan};
+ghost use Rattle.plan.specs.Sizes.{sizes_verdict};
 
-use super::rows::{is_protected, plane_words, words_of};
-use error::{Check, Refusal};
+use super::rows::Row;
+use error::Refusal;
 use layout::{MAX_IMAGE_BYTES, WORD, header_length};
 
-fn row_words(rows: &[u64]) -> usize
+// The words of the rows' regions, and of their planes.
+fn count_words(rows: &[Row]) -> (usize, usize)
     requires { length rows.now ≤ 1024 }
-    ensures { (result ≡ row_words_lem (rows_of rows.now)) × (result ≤ 1024 * 4294967295) }
+    ensures words { result.0 ≡ row_words_lem (as_plan rows.now) }
+    ensures planes { result.1 ≡ planes_words (as_plan rows.now) }
+    ensures few { (result.0 ≤ 1024 * 4294967295) × (result.1 ≤ 1024 * 4294967295) }
 {
-    let mut sum: usize = 0;
-    let mut i: usize = 0;
-    while i < rows.len() {
-        sum += words_of(rows[i]) as usize;
-        i += 1;
-    }
-    sum
-}
-
-fn planes_words(rows: &[u64]) -> usize
-    requires { length rows.now ≤ 1024 }
-    ensures { (result ≡ planes_words (rows_of rows.now)) × (result ≤ 1024 * 4294967295) }
-{
-    let mut sum: usize = 0;
-    let mut i: usize = 0;
-    while i < rows.len() {
-        let row = rows[i];
-        if is_protected(row) {
-            sum += plane_words(row);
+    let mut words: usize = 0;
+    let mut planes: usize = 0;
+    for row in rows {
+        words += row.words as usize;
+        if row.is_protected() {
+            planes += row.plane_words();
         }
-        i += 1;
     }
-    sum
+    (words, planes)
 }
 
 // Checks what is left once the rows passed their own checks and have at most 1,024 regions: the payload's length, the image's, the room for it.
-pub fn check_sizes(rows: &[u64], regions: usize, payload: &[u8], room: usize) -> Check
-    requires { (length rows.now ≤ 1024) × (regions ≤ 1024) × (regions ≡ model.regions (rows_of rows.now)) }
-    ensures { as_check result ≡ sizes_verdict (rows_of rows.now) payload.now room }
+pub fn check_sizes(rows: &[Row], regions: usize, payload: &[u8], room: usize) -> Result<(), Refusal>
+    requires { (length rows.now ≤ 1024) × (regions ≤ 1024) × (regions ≡ model.regions (as_plan rows.now)) }
+    ensures { as_check result ≡ sizes_verdict (as_plan rows.now) payload.now room }
 {
-    let words = row_words(rows);
+    let (words, planes) = count_words(rows);
     if payload.len() != WORD * words {
-        return Check::Refuse(Refusal::BadPlan { row: rows.len() });
+        return Err(Refusal::BadPlan { row: rows.len() });
     }
-    let length = header_length(regions as u16) + WORD * (words + planes_words(rows));
+    let length = header_length(regions as u16) + WORD * (words + planes);
     if length > MAX_IMAGE_BYTES {
-        return Check::Refuse(Refusal::TooLarge);
+        return Err(Refusal::TooLarge);
     }
     if room < length {
-        return Check::Refuse(Refusal::NoRoom);
+        return Err(Refusal::NoRoom);
     }
-    Check::Fine
+    Ok(())
 }

@@ -1,4 +1,4 @@
-pub mod AnswerLaw
+pub mod CopiesLaw
 pub mod EntriesLaw
 pub mod ImageLaw
 pub mod OneAnswer

@@ -6,19 +6,19 @@ use Rattle.model.specs.Refusals.{refuse}
 use Rattle.model.proofs.OneAnswer.{OneAnswerAnd, agree}
 use Rattle.error.specs.Refused.{number_of, detail_of}
 use Rattle.error.proofs.OneAnswer.{one_refusal}
-use Rattle.writer.specs.declared.image.WriteResult.{WriteResult}
-use Rattle.writer.specs.declared.image.WriteResult.TheVariants.{Written, Refused}
+use Rattle.std.specs.Prelude.{Result, Ok, Err}
+use Rattle.error.specs.declared.Refusal.{Refusal}
 use Rattle.writer.specs.Answers.{as_written}
 use Rattle.writer.proofs.write.Reads as write
 
-pub one_written : (a b : WriteResult) → as_written a ≡ as_written b → a ≡ b
-one_written (Written m) (Written n) e = ap Written (let z : m ≡ n = cc in z)
-one_written (Written m) (Refused r) e = let z : ◌≡◌ {A = ℕ} 0 1 = cc in absurd (omega arith)
-one_written (Refused r) (Written n) e = let z : ◌≡◌ {A = ℕ} 0 1 = cc in absurd (omega arith)
-one_written (Refused r) (Refused s) e =
+pub one_written : (a b : Result ℕ Refusal) → as_written a ≡ as_written b → a ≡ b
+one_written (Ok m) (Ok n) e = ap Ok (let z : m ≡ n = cc in z)
+one_written (Ok m) (Err r) e = let z : ◌≡◌ {A = ℕ} 0 1 = cc in absurd (omega arith)
+one_written (Err r) (Ok n) e = let z : ◌≡◌ {A = ℕ} 0 1 = cc in absurd (omega arith)
+one_written (Err r) (Err s) e =
     let m : number_of r ≡ number_of s = cc in
     let d : detail_of r ≡ detail_of s = cc in
-    ap Refused (one_refusal r s (ap₂ refuse m d))
+    ap Err (one_refusal r s (ap₂ refuse m d))
 
 -- ---- no two answers of a function fit its promise
 

@@ -11,22 +11,20 @@ mod image;
 mod planes;
 mod prologue;
 
-pub use image::WriteResult;
-use image::write_plan;
-use plan::{Checked, Row, check_row, empty_plan};
+use error::Refusal;
+use image::put_image;
+use layout::MAX_REGIONS;
+use plan::{Row, check_rows, check_sizes};
 
 // The image of the plan goes to the front of `out`, and the answer is its length; a refusal leaves every byte of `out` as it was.
-// Each row goes to `check_row` by value, and what is kept of them to `write_plan`.
-pub fn write(rows: &[Row], payload: &[u8], out: &mut [u8]) -> WriteResult
-    ensures { (as_written result ≡ answer_of (model.write (as_plan rows.now) payload.now (length out.old)))
-        × (out.new ≡ bytes_after (model.write (as_plan rows.now) payload.now (length out.old)) out.old) }
+pub fn write(rows: &[Row], payload: &[u8], out: &mut [u8]) -> Result<usize, Refusal>
+    ensures is { as_written result ≡ answer_of (model.write (as_plan rows.now) payload.now (length out.old)) }
+    ensures leaves { out.new ≡ bytes_after (model.write (as_plan rows.now) payload.now (length out.old)) out.old }
 {
-    let mut plan = empty_plan();
-    let mut checked = Checked::Fine(0);
-    let mut i = 0;
-    while i < rows.len() {
-        checked = check_row(&mut plan, checked, i, rows[i]);
-        i += 1;
+    let regions = check_rows(rows)?;
+    if regions > MAX_REGIONS {
+        return Err(Refusal::TooManyRegions { found: regions });
     }
-    write_plan(&plan, checked, rows.len(), payload, out)
+    check_sizes(rows, regions, payload, out.len())?;
+    Ok(put_image(out, rows, regions, payload))
 }

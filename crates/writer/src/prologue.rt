@@ -5,7 +5,7 @@ ghost use Rattle.model.specs.Writer.{prologue_start, prologue_bytes};
 ghost use Rattle.put.specs.Put.{Put};
 
 use crc::crc32;
-use layout::{BOM, FORMAT_VERSION, MAGIC};
+use layout::{BOM, COPIES, FORMAT_VERSION, MAGIC};
 use put::{put_u16, put_u32};
 
 // The three copies of the prologue, from the front of `out` on.
@@ -13,9 +13,11 @@ pub(crate) fn put_prologues(out: &mut [u8], regions: u16, flags: u16) -> usize
     requires { 48 ≤ length out.old }
     ensures { Put out.old 0 (thrice (prologue_bytes regions flags)) result out.new }
 {
-    let second = put_prologue(out, 0, regions, flags);
-    let third = put_prologue(out, second, regions, flags);
-    put_prologue(out, third, regions, flags)
+    let mut next = 0;
+    for _copy in 0..COPIES {
+        next = put_prologue(out, next, regions, flags);
+    }
+    next
 }
 
 fn put_prologue_start(out: &mut [u8], at: usize, regions: u16, flags: u16) -> usize

@@ -1,12 +1,7 @@
-use Rattle.std.proofs.Common.{arith}
-use Rattle.intel_hex.proofs.RecordLaw.{none_summed, one_summed, all_summed}
+use Rattle.std.proofs.Common.{rules, ◌≡◌, ◌+◌, ◌%◌, fold, ◌∙◌, arith}
+use Rattle.intel_hex.proofs.RecordLaw.{low_fold}
 use Rattle.intel_hex.proofs.record.low_total.Goals as goal
 
-pub loop-i-init : goal.loop-i-init
-loop-i-init c = none_summed _
-
-pub loop-i-preserved : goal.loop-i-preserved
-loop-i-preserved c = one_summed _ _ _ _ c.loop-i.invariant (omega arith) c.wrapping_add_u8-sum.ensures.value
-
+-- `intel_hex::record::low_total` meets its contract. Assumes nothing.
 pub returns : goal.returns
-returns c = all_summed _ _ _ c.loop-i.invariant (omega arith)
+returns c = let e : c.fold.result ≡ fold (λ n b. (n + b) % 256) 0 c.args.bytes.now = search rules in e ∙ low_fold 0 c.args.bytes.now (omega arith) ∙ omega arith

@@ -1,24 +1,34 @@
-use Rattle.std.proofs.Common.{arith}
-use Rattle.intel_hex.proofs.WritingLaw.{line_part, line_short, none_written, upper_room, line_room, line_written, end_room, all_written}
+use Rattle.std.proofs.Common.{ap, ◌∙◌, arith}
+use Rattle.std.specs.Slice.Iter.{chunks_rest, chunks_size}
+use Rattle.intel_hex.proofs.WritingLaw.{none_written, inside, before_upper, before_line, short, after_line, before_end, after_end}
 use Rattle.intel_hex.proofs.writing.put_text.Goals as goal
 
-pub loop-from-init : goal.loop-from-init
-loop-from-init c = none_written _ _ c.requires.0
+pub loop-line-init : goal.loop-line-init
+loop-line-init c =
+    let e = c.into_iter-line-iterator.ensures.into_iter_gives in
+    record {
+      sixteen = ap chunks_size e ∙ c.chunks-line-items.ensures.size;
+      is_left = ap chunks_rest e ∙ c.chunks-line-items.ensures.rest;
+      written = none_written _ _ c.requires.0;
+    }
 
-pub put_upper-line-requires : goal.put_upper-line-requires
-put_upper-line-requires c = (upper_room _ _ _ c.loop-from.invariant c.loop-from-test.true, omega arith)
+pub put_upper-data-requires : goal.put_upper-data-requires
+put_upper-data-requires c =
+    let t = c.in-Some.ensures.steps.1 in
+    (before_upper c.loop-line.invariant _ _ t.0 t.1 t.2, omega (arith, inside c.loop-line.invariant _ _ t.0 t.1 t.2, c.requires.1))
 
 pub put_record-next-requires : goal.put_record-next-requires
-put_record-next-requires c = (line_room _ _ _ c.loop-from.invariant c.loop-from-test.true c.put_upper-line.ensures _ (line_part c.args.bytes.now c.loop-from.from c.line_end-end.result c.loop-from-test.true c.line_end-end.ensures.is), line_short c.args.bytes.now c.loop-from.from c.line_end-end.result (omega (arith, c.line_end-end.ensures.fits)) (omega (arith, c.line_end-end.ensures.fits)))
+put_record-next-requires c =
+    let t = c.in-Some.ensures.steps.1 in
+    (before_line c.loop-line.invariant _ _ t.0 t.1 t.2 c.put_upper-data.ensures, short c.loop-line.invariant _ _ t.0 t.1 t.2)
 
-pub loop-from-preserved : goal.loop-from-preserved
-loop-from-preserved c = line_written _ _ _ c.loop-from.invariant c.loop-from-test.true c.put_upper-line.ensures _ (line_part c.args.bytes.now c.loop-from.from c.line_end-end.result c.loop-from-test.true c.line_end-end.ensures.is) c.put_record-next.ensures
+pub loop-line-preserved : goal.loop-line-preserved
+loop-line-preserved c =
+    let t = c.in-Some.ensures.steps.1 in
+    after_line c.loop-line.invariant _ _ t.0 t.1 t.2 c.put_upper-data.ensures c.put_record-next.ensures c.in-Some.ensures.steps.0
 
 pub put_record-requires : goal.put_record-requires
-put_record-requires c = (omega (arith, end_room _ _ _ c.loop-from.invariant (omega arith)), omega arith)
-
-pub shape_of-text : goal.shape_of-text
-shape_of-text c = (all_written _ _ _ c.loop-from.invariant (omega arith) c.put_record.ensures).long
+put_record-requires c = (omega (arith, before_end c.loop-line.invariant c.in-None.ensures.steps.1.0), omega arith)
 
 pub returns : goal.returns
-returns c = all_written _ _ _ c.loop-from.invariant (omega arith) c.put_record.ensures
+returns c = after_end c.loop-line.invariant c.in-None.ensures.steps.1.0 c.put_record.ensures

@@ -1,74 +1,78 @@
-use mathlib.Core.Path.{◌≡◌, ap, ap₂, ◌∙◌, subst}
-use Prim.Native.Nat.{ℕ, ◌*◌, ◌/◌}
-use native.Mathlib.Omega.{arith}
-use lib.ListN.{length}
-use mathlib.Core.List.{List, ◌++◌}
+use Rattle.std.proofs.Common.{◌≡◌, ℕ, ◌*◌, ◌/◌, List, ◌++◌, length, ap, ap₂, ◌∙◌, subst, arith}
 use Rattle.model.specs.Bytes.{thrice}
-use Rattle.model.specs.Writer.{Row, regions, first_word, plan_directory, entries_bytes, prologue_bytes, planes_bytes, plan_image, image_length, row_words_lem}
+use Rattle.model.specs.Writer as model
+use Rattle.model.specs.Writer.{regions, first_word, plan_directory, entries_bytes, prologue_bytes, planes_bytes, plan_image, image_length, row_words_lem}
 use Rattle.model.specs.Layout.{header_length}
 use Rattle.model.proofs.BytesLaw.{length_thrice}
 use Rattle.lemmas.proofs.PlanCodewords.{length_planes}
-use Rattle.plan.specs.Kept.{rows_of}
-use Rattle.writer.specs.Answers.{Sized}
+use Rattle.plan.specs.declared.rows.Row.{Row}
+use Rattle.plan.specs.Rows.{as_plan}
 use Rattle.put.specs.Put.{Put}
 use Rattle.writer.proofs.ImageLaw.{copy_of, copy_is, copy_length, image_length_lem}
 use Rattle.writer.proofs.PrologueLaw.{prologues_length}
+use Rattle.writer.proofs.WriteLaw.{Sized, sized}
 use Rattle.put.proofs.PutLaw.{begin, go_on, last}
 use Rattle.writer.proofs.image.put_image.Goals as goal
 
 -- `writer::image::put_image` meets its contract. Assumes nothing.
+pub overflow_cast-count : goal.overflow_cast-count
+overflow_cast-count c = omega (arith, (sized c.args.rows.now c.args.regions c.args.payload.now c.args.out.now c.requires.counted c.requires.fine).small)
+
 pub put_prologues-directory-requires : goal.put_prologues-directory-requires
 unfolding image_length
-put_prologues-directory-requires c = omega (arith, c.requires.room)
+put_prologues-directory-requires c = omega (arith, (sized c.args.rows.now c.args.regions c.args.payload.now c.args.out.now c.requires.counted c.requires.fine).room)
 
 pub overflow_cast-first_word : goal.overflow_cast-first_word
-overflow_cast-first_word c = omega (arith, c.header_length.ensures, c.requires.small)
+overflow_cast-first_word c = omega (arith, c.header_length.ensures, (sized c.args.rows.now c.args.regions c.args.payload.now c.args.out.now c.requires.counted c.requires.fine).small)
 
 -- ---- once the header's length h is known
-module _ {xs payload out : List ℕ} {n h : ℕ} (s : Sized xs n payload out) (e : h ≡ header_length n) where
+module _ {xs : List Row} {payload out : List ℕ} {n h : ℕ} (s : Sized xs n payload out) (e : h ≡ header_length n) where
   -- one copy of the directory
   abbrev copy : List ℕ
-  copy = copy_of (h / 8) (length payload / 8) (rows_of xs)
+  copy = copy_of (h / 8) (length payload / 8) (as_plan xs)
 
-  first_word_lem : h / 8 ≡ first_word (rows_of xs)
+  first_word_lem : h / 8 ≡ first_word (as_plan xs)
   first_word_lem = omega (arith, e, s.counted)
 
-  row_words : length payload / 8 ≡ row_words_lem (rows_of xs)
+  row_words : length payload / 8 ≡ row_words_lem (as_plan xs)
   row_words = omega (arith, s.full)
 
-  copied : copy ≡ entries_bytes (plan_directory (rows_of xs))
-  copied = copy_is _ _ (rows_of xs) first_word_lem row_words
+  copied : copy ≡ entries_bytes (plan_directory (as_plan xs))
+  copied = copy_is _ _ (as_plan xs) first_word_lem row_words
 
-  long : length copy ≡ 16 * regions (rows_of xs)
-  long = ap length copied ∙ copy_length (rows_of xs)
+  long : length copy ≡ 16 * regions (as_plan xs)
+  long = ap length copied ∙ copy_length (as_plan xs)
 
-  long_thrice : length (thrice copy) ≡ 3 * (16 * regions (rows_of xs))
-  long_thrice = length_thrice copy (16 * regions (rows_of xs)) long
+  long_thrice : length (thrice copy) ≡ 3 * (16 * regions (as_plan xs))
+  long_thrice = length_thrice copy (16 * regions (as_plan xs)) long
 
 pub overflow_cast-plane_word : goal.overflow_cast-plane_word
 unfolding image_length
-overflow_cast-plane_word c = omega (arith, c.requires.fits, row_words c.requires c.header_length.ensures)
+overflow_cast-plane_word c = let s = sized c.args.rows.now c.args.regions c.args.payload.now c.args.out.now c.requires.counted c.requires.fine in omega (arith, s.fits, row_words s c.header_length.ensures)
 
 pub overflow_add-plane_word : goal.overflow_add-plane_word
 unfolding image_length
-overflow_add-plane_word c = omega (arith, c.requires.fits, first_word_lem c.requires c.header_length.ensures, row_words c.requires c.header_length.ensures)
+overflow_add-plane_word c = let s = sized c.args.rows.now c.args.regions c.args.payload.now c.args.out.now c.requires.counted c.requires.fine in omega (arith, s.fits, first_word_lem s c.header_length.ensures, row_words s c.header_length.ensures)
 
 pub put_directories-packed-requires : goal.put_directories-packed-requires
 unfolding image_length
 put_directories-packed-requires c =
-    let s = c.requires in
+    let s = sized c.args.rows.now c.args.regions c.args.payload.now c.args.out.now c.requires.counted c.requires.fine in
     let h = c.header_length.ensures in
-    let p = c.put_prologues-directory.ensures in (
-      omega (arith, long s h, s.room, p.behind, p.long, prologues_length c.args.regions 0),
-      omega (arith, s.fits, first_word_lem s h),
-      omega (arith, s.fits, first_word_lem s h, row_words s h),
-      s.low_kinds,
-    )
+    let p = c.put_prologues-directory.ensures in
+    record {
+      room = omega (arith, long s h, s.room, p.behind, p.long, prologues_length c.args.regions 0);
+      packs = record {
+        regions_fit = omega (arith, s.fits, first_word_lem s h);
+        planes_fit = omega (arith, s.fits, first_word_lem s h, row_words s h);
+        low = s.low_kinds;
+      };
+    }
 
 pub put_bytes-planes-requires : goal.put_bytes-planes-requires
 unfolding image_length
 put_bytes-planes-requires c =
-    let s = c.requires in
+    let s = sized c.args.rows.now c.args.regions c.args.payload.now c.args.out.now c.requires.counted c.requires.fine in
     let p = c.put_prologues-directory.ensures in
     let q = c.put_directories-packed.ensures in
     omega (arith, long_thrice s c.header_length.ensures, s.room, s.full, q.behind, q.long, p.behind, p.long, prologues_length c.args.regions 0)
@@ -76,18 +80,21 @@ put_bytes-planes-requires c =
 pub put_planes-requires : goal.put_planes-requires
 unfolding image_length
 put_planes-requires c =
-    let s = c.requires in
+    let s = sized c.args.rows.now c.args.regions c.args.payload.now c.args.out.now c.requires.counted c.requires.fine in
     let p = c.put_prologues-directory.ensures in
     let q = c.put_directories-packed.ensures in
     let b = c.put_bytes-planes.ensures in
-    (omega (arith, long_thrice s c.header_length.ensures, s.room, s.full, b.behind, b.long, q.behind, q.long, p.behind, p.long, prologues_length c.args.regions 0, length_planes (rows_of c.args.rows.now) c.args.payload.now), s.full)
+    record {
+      room = omega (arith, long_thrice s c.header_length.ensures, s.room, s.full, b.behind, b.long, q.behind, q.long, p.behind, p.long, prologues_length c.args.regions 0, length_planes (as_plan c.args.rows.now) c.args.payload.now);
+      full = s.full;
+    }
 
 pub returns : goal.returns
 unfolding plan_image
 returns c =
-    let s = c.requires in
+    let s = sized c.args.rows.now c.args.regions c.args.payload.now c.args.out.now c.requires.counted c.requires.fine in
     let h = c.header_length.ensures in
-    let rs : List Row = rows_of c.args.rows.now in
+    let rs : List model.Row = as_plan c.args.rows.now in
     let payload : List ℕ = c.args.payload.now in
     let n : ℕ = c.args.regions in
     let o : List ℕ = c.args.out.now in

@@ -1,14 +1,14 @@
-use mathlib.Core.Path.{sym, ap, ◌∙◌}
-use Prim.Native.Nat.{ℕ, ◌*◌}
-use native.Mathlib.Omega.{arith}
+use Rattle.std.proofs.Common.{◌≡◌, ℕ, ◌+◌, ◌*◌, sym, ap, ◌∙◌, subst, arith}
 use Rattle.model.specs.Parity.{check_of}
+use Rattle.model.specs.Writer.{checks}
 use Rattle.scalar.proofs.OrZero.{or_zero_in}
 use Rattle.lemmas.proofs.PlanCodewords.{length_checks, at_checks}
+use Rattle.put.specs.Put.{Put}
 use Rattle.put.proofs.PutLaw.{kept_length, none_put, byte_room, byte_put, all_put}
 use Rattle.writer.proofs.planes.put_checks.Goals as goal
 
 pub loop-w-init : goal.loop-w-init
-loop-w-init c = let g = c.args in none_put _ _ _ (omega (arith, c.requires, length_checks g.words g.b.now))
+loop-w-init c = let g = c.args in none_put _ _ _ (omega (arith, c.requires.room, length_checks g.words g.b.now))
 
 pub overflow_add-out : goal.overflow_add-out
 overflow_add-out c = let g = c.args in omega (arith, byte_room _ _ c.loop-w.invariant (omega (arith, length_checks g.words g.b.now)))
@@ -23,11 +23,11 @@ loop-w-preserved c =
     byte_put _ _ c.loop-w.invariant _ (omega (arith, length_checks g.words g.b.now))
     (c.check_byte.ensures ∙ ap check_of (c.u64_or_zero.ensures ∙ or_zero_in 8 g.b.now (8 * w) (omega arith)) ∙ sym (at_checks g.words g.b.now w (omega arith)))
 
-pub overflow_add-result : goal.overflow_add-result
-overflow_add-result c = omega (arith, c.loop-w.invariant.going.room, kept_length _ _ _ c.loop-w.invariant.going)
-
 pub shape_of-out : goal.shape_of-out
 shape_of-out c = kept_length _ _ _ c.loop-w.invariant.going
 
 pub returns : goal.returns
-returns c = let g = c.args in all_put _ _ c.loop-w.invariant (omega (arith, length_checks g.words g.b.now))
+returns c =
+    let g = c.args in
+    let e : c.loop-w.w ≡ g.words = omega arith in
+    subst (λ (n : ℕ). Put g.out.now g.at (checks g.words g.b.now) (g.at + n) c.loop-w.out) e (all_put _ _ c.loop-w.invariant (omega (arith, length_checks g.words g.b.now)))

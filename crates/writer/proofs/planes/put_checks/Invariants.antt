@@ -1,4 +1,3 @@
-use Prim.Native.Nat.{◌-◌}
 use Rattle.model.specs.Writer.{checks}
 use Rattle.put.proofs.PutLaw.{Bytewise}
 use Rattle.writer.proofs.planes.put_checks.Given as goal
@@ -6,6 +5,3 @@ use Rattle.writer.proofs.planes.put_checks.Given as goal
 -- `writer::planes::put_checks` meets its contract. The invariant: w check bytes are put. Assumes nothing.
 abbrev pub invariant-loop-w : goal.invariant-loop-w
 invariant-loop-w l = Bytewise l.initial.out l.at (checks l.words l.b) l.out l.w
-
-abbrev pub decreases-loop-w : goal.decreases-loop-w
-decreases-loop-w l = l.words - l.w
