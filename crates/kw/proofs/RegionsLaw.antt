@@ -1,7 +1,7 @@
 -- What a lookup hands out has its entry's numbers, and no entry is found past the last. Assumes nothing.
 use mathlib.Core.Path.{◌≡◌, refl, ap, ◌∙◌}
 use mathlib.Core.List.{List}
-use Rattle.std.specs.Prelude.{Option, None, Some}
+use Rattle.std.specs.Prelude.{Option, None, Some, Result, Ok}
 use Prim.Native.Nat.{ℕ, ◌≤◌}
 use native.Mathlib.Omega.{arith}
 use Rattle.model.specs.Layout.{Entry, count}
@@ -9,8 +9,7 @@ use Rattle.model.specs.Parse.{Parsed, parse}
 use Rattle.model.specs.Views.{entries_for, find_region, region_at}
 use Rattle.model.proofs.WalkLaw.{nth_past}
 use Rattle.view.specs.declared.header.Header.{Header}
-use Rattle.view.specs.declared.header.ParseResult.{ParseResult}
-use Rattle.view.specs.declared.header.ParseResult.TheVariants as parse-variants
+use Rattle.error.specs.declared.Refusal.{Refusal}
 use Rattle.view.specs.Answers.{as_parsed, found_as}
 use Rattle.view.proofs.AnswersLaw.{parsed_count}
 use Rattle.view.proofs.EntriesForLaw.{length_entries_for}
@@ -30,7 +29,7 @@ found_entry None = refl
 found_entry (Some e) = refl
 
 -- of an image whose parse r gave the header h
-module _ (x : List ℕ) (r : ParseResult) (e : as_parsed r ≡ parse x) (h : Header) (d : r ≡ parse-variants.Parsed h) where
+module _ (x : List ℕ) (r : Result Header Refusal) (e : as_parsed r ≡ parse x) (h : Header) (d : r ≡ Ok h) where
   pub place_told : (k : ℕ) → place_numbers (as_found (found_as (find_region h.region_count x k))) ≡ region_numbers (parse x) (find_region (count x) x k)
   place_told k =
       found_place (find_region h.region_count x k)

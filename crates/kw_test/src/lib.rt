@@ -12,8 +12,8 @@ ghost use Rattle.model.specs.Scan.{slice_word, slice_scan};
 ghost use Rattle.ecc.specs.Answers.{as_word};
 ghost use Rattle.kw_test.specs.Numbers.{as_numbers, region_numbers, outcome_numbers, word_numbers, count_numbers, answers_numbers};
 
-use ecc::{EccReport, PlaneWord, WordStatus};
-use layout::{Region, Size};
+use ecc::{EccReport, WordStatus};
+use layout::Region;
 use scalar::{Number, number_at};
 
 mod parts;
@@ -109,8 +109,8 @@ pub extern "C" fn kwt_words_for(bytes: usize, answer: &mut [u64; 2])
     ensures { answer.new ≡ as_numbers (words_for bytes) }
 {
     match layout::words_for(bytes) {
-        Size::Of(n) => *answer = [1, n as u64],
-        Size::Nothing => *answer = [0, 0],
+        Some(n) => *answer = [1, n as u64],
+        None => *answer = [0, 0],
     }
 }
 
@@ -119,8 +119,8 @@ pub extern "C" fn kwt_header_bytes(count: usize, answer: &mut [u64; 2])
     ensures { answer.new ≡ as_numbers (header_bytes count) }
 {
     match layout::header_bytes(count) {
-        Size::Of(n) => *answer = [1, n as u64],
-        Size::Nothing => *answer = [0, 0],
+        Some(n) => *answer = [1, n as u64],
+        None => *answer = [0, 0],
     }
 }
 
@@ -178,16 +178,16 @@ pub extern "C" fn kwt_decode_word(data: u64, check: u8, answer: &mut [u64; 2])
     }
 }
 
-fn word_numbers(word: PlaneWord) -> [u64; 3]
+fn word_numbers(word: Option<WordStatus>) -> [u64; 3]
     ensures { result ≡ word_numbers (as_word word) }
 {
     match word {
-        PlaneWord::Word(s) => match s {
+        Some(s) => match s {
             WordStatus::Clean(w) => [1, 0, w],
             WordStatus::Corrected(w) => [1, 1, w],
             WordStatus::Uncorrectable => [1, 2, 0],
         },
-        PlaneWord::Nothing => [0, 0, 0],
+        None => [0, 0, 0],
     }
 }
 
