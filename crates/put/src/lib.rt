@@ -10,6 +10,7 @@ ghost use Rattle.put.specs.Put.{Put};
 use scalar::Number;
 
 // A loop, since `copy_from_slice` calls `memcpy`, and firmware may have no C library: the archive asks it for `memset` alone (tests/api.sh).
+#[tactic(auto, using(crate::proofs::PutLaw::pasted, std::proofs::lemmas::List::Edits::paste_more))]
 pub fn put_bytes(out: &mut [u8], at: usize, bytes: &[u8]) -> usize
     requires { at + length bytes.now ≤ length out.old }
     ensures { Put out.old at bytes.now result out.new }
@@ -20,6 +21,7 @@ pub fn put_bytes(out: &mut [u8], at: usize, bytes: &[u8]) -> usize
     at + bytes.len()
 }
 
+#[tactic(auto, using(crate::proofs::PutLaw::came_back))]
 pub fn put_zeros(out: &mut [u8], at: usize, n: usize) -> usize
     requires { at + n ≤ length out.old }
     ensures { Put out.old at (replicate n 0) result out.new }
