@@ -1,5 +1,5 @@
 // The planes of a plan's image, put in the order of their rows. (FORMAT 9)
-ghost use Rattle.std.specs.Prelude.{◌≡◌, ◌+◌, ◌*◌, ◌≤◌, length};
+ghost use Rattle.std.specs.Prelude.{◌≡◌, ◌+◌, ◌*◌, ◌/◌, ◌≤◌, length};
 ghost use Rattle.model.specs.Writer.{row_words_lem, plane_words, checks, plane_bytes, planes_bytes};
 ghost use Rattle.plan.specs.Rows.{as_row, as_plan};
 ghost use Rattle.put.specs.Put.{Put};
@@ -34,18 +34,19 @@ fn put_plane(out: &mut [u8], at: usize, row: Row, b: &[u8]) -> usize
     ensures { Put out.old at (plane_bytes (as_row row) b.now) result out.new }
 {
     let words = row.words as usize;
-    let tail = put_checks(out, at, words, b);
+    let tail = put_checks(out, at, &b[..WORD * words]);
     put_zeros(out, tail, WORD * row.plane_words() - words)
 }
 
-// The check bytes of the first words of b.
-fn put_checks(out: &mut [u8], at: usize, words: usize, b: &[u8]) -> usize
-    requires room { at + words ≤ length out.old }
-    requires full { 8 * words ≤ length b.now }
-    ensures { Put out.old at (checks words b.now) result out.new }
+// The check bytes of whole words.
+fn put_checks(out: &mut [u8], at: usize, words: &[u8]) -> usize
+    requires { at + length words.now / 8 ≤ length out.old }
+    ensures { Put out.old at (checks (length words.now / 8) words.now) result out.new }
 {
-    for w in 0..words {
-        out[at + w] = check_byte(u64_or_zero(b, WORD * w));
+    let mut next = at;
+    for word in words.chunks_exact(WORD) {
+        out[next] = check_byte(u64_or_zero(word, 0));
+        next += 1;
     }
-    at + words
+    next
 }
