@@ -17,25 +17,25 @@ pub(crate) fn put_planes(out: &mut [u8], at: usize, rows: &[Row], payload: &[u8]
     ensures { Put out.old at (planes_bytes (as_plan rows.now) payload.now) result out.new }
 {
     let mut next = at;
-    let mut from: usize = 0;
+    let mut rest = payload;
     for row in rows {
+        let (words, behind) = rest.split_at(WORD * row.words as usize);
         if row.is_protected() {
-            next = put_plane(out, next, *row, &payload[from..]);
+            next = put_plane(out, next, *row, words);
         }
-        from += WORD * row.words as usize;
+        rest = behind;
     }
     next
 }
 
 // A plane: the check bytes, and zeros up to a whole word.
-fn put_plane(out: &mut [u8], at: usize, row: Row, b: &[u8]) -> usize
+fn put_plane(out: &mut [u8], at: usize, row: Row, words: &[u8]) -> usize
     requires room { at + 8 * plane_words (as_row row) ≤ length out.old }
-    requires full { 8 * row.words ≤ length b.now }
-    ensures { Put out.old at (plane_bytes (as_row row) b.now) result out.new }
+    requires full { length words.now ≡ 8 * row.words }
+    ensures { Put out.old at (plane_bytes (as_row row) words.now) result out.new }
 {
-    let words = row.words as usize;
-    let tail = put_checks(out, at, &b[..WORD * words]);
-    put_zeros(out, tail, WORD * row.plane_words() - words)
+    let tail = put_checks(out, at, words);
+    put_zeros(out, tail, WORD * row.plane_words() - row.words as usize)
 }
 
 // The check bytes of whole words.
