@@ -1,2 +1,1 @@
-pub mod ArgumentsLaw
 pub mod OneAnswer

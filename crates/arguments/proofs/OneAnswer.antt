@@ -2,6 +2,9 @@
 use Rattle.model.proofs.OneAnswer.{OneAnswer, agree}
 use Rattle.arguments.proofs.argument.word.Reads as word
 use Rattle.arguments.proofs.argument.is_standard.Reads as is-standard
+use Rattle.arguments.proofs.words.CommandTryFromU8.try_from.Reads as numbered-command
+use Rattle.arguments.proofs.words.WordFromU8.from.Reads as numbered-word
+use Rattle.arguments.proofs.invocation.FaultFromU8.from.Reads as numbered-fault
 use Rattle.arguments.proofs.invocation.start.Reads as start
 use Rattle.arguments.proofs.invocation.reports_on.Reads as reports-on
 use Rattle.arguments.proofs.invocation.step.Reads as step
@@ -24,3 +27,12 @@ one_answer_step κs a r r' s s' p q = agree p q
 
 pub one_answer_finish : OneAnswer finish.Learnt
 one_answer_finish κs a r r' s s' p q = agree p q
+
+pub one_answer_numbered_command : OneAnswer numbered-command.Learnt
+one_answer_numbered_command κs a r r' s s' p q = agree p q
+
+pub one_answer_numbered_word : OneAnswer numbered-word.Learnt
+one_answer_numbered_word κs a r r' s s' p q = agree p q
+
+pub one_answer_numbered_fault : OneAnswer numbered-fault.Learnt
+one_answer_numbered_fault κs a r r' s s' p q = agree p q

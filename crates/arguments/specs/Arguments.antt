@@ -1,199 +1,178 @@
 -- What an argument is, and what a run of them asks for. (FORMAT 14)
-use Rattle.std.specs.Prelude.{Bool, true, false, ◌&&◌, ◌||◌, cond, List, [], ◌∷◌, ℕ, eqb, ltb, length, get_or}
+use Rattle.std.specs.Prelude.{Bool, true, false, ◌&&◌, ◌||◌, cond, if◌then◌else◌, List, ℕ, Option, Some, None, Result, Ok, Err, eqb, ltb, length, get_or}
+use Rattle.std.specs.Str.{bytes_eq}
 use Prim.Native.String.{String}
 use Rattle.model.specs.Programs.{text}
+use Rattle.arguments.specs.declared.words.Command.{Command}
+use Rattle.arguments.specs.declared.words.Command.TheVariants.{Report, Mend, Help, Version}
+use Rattle.arguments.specs.declared.words.UnknownCommand.{UnknownCommand}
+use Rattle.arguments.specs.declared.words.Word.{Word}
+use Rattle.arguments.specs.declared.words.Word.TheVariants as word
+use Rattle.arguments.specs.declared.invocation.Fault.{Fault}
+use Rattle.arguments.specs.declared.invocation.Fault.TheVariants.{NoCommand, NoSuchCommand, NoSuchOption, NoFile, SecondFile, NoOutput, SecondOutput, NotExpected}
+use Rattle.arguments.specs.declared.invocation.Files.{Files}
+use Rattle.arguments.specs.declared.invocation.Files.TheVariants as files
+use Rattle.arguments.specs.declared.invocation.Next.{Next}
+use Rattle.arguments.specs.declared.invocation.Next.TheVariants as next
 use Rattle.arguments.specs.declared.invocation.Invocation.{Invocation}
 
--- ---- words. The first five numbers are those of the commands too, with 0 for none.
+-- ---- words, and the numbers that they are known by too
 
-abbrev pub a_name : ℕ
-a_name = 0
+abbrev pub command_numbered : ℕ → Result Command UnknownCommand
+command_numbered n =
+    cond (eqb n 1) (Ok Report)
+    (cond (eqb n 2) (Ok Mend)
+    (cond (eqb n 3) (Ok Help)
+    (cond (eqb n 4) (Ok Version)
+    (Err (record { 0 = n })))))
 
-abbrev pub report : ℕ
-report = 1
-
-abbrev pub mend : ℕ
-mend = 2
-
-abbrev pub help : ℕ
-help = 3
-
-abbrev pub version : ℕ
-version = 4
-
-abbrev pub output_option : ℕ
-output_option = 5
-
-abbrev pub end_of_options : ℕ
-end_of_options = 6
-
-abbrev pub help_option : ℕ
-help_option = 7
-
-abbrev pub version_option : ℕ
-version_option = 8
-
-abbrev pub other_option : ℕ
-other_option = 9
-
-unfoldable pub same : List ℕ → List ℕ → Bool
-same [] [] = true
-same [] (y ∷ ys) = false
-same (x ∷ xs) [] = false
-same (x ∷ xs) (y ∷ ys) = eqb x y && same xs ys
+abbrev pub word_numbered : ℕ → Word
+word_numbered n =
+    cond (eqb n 0) word.Name
+    (cond (eqb n 1) (word.Command Report)
+    (cond (eqb n 2) (word.Command Mend)
+    (cond (eqb n 3) (word.Command Help)
+    (cond (eqb n 4) (word.Command Version)
+    (cond (eqb n 5) word.OutputOption
+    (cond (eqb n 6) word.EndOfOptions
+    (cond (eqb n 7) word.HelpOption
+    (cond (eqb n 8) word.VersionOption
+    word.OtherOption))))))))
 
 abbrev pub is : List ℕ → String → Bool
-is x s = same x (text s)
+is x s = bytes_eq x (text s)
 
 -- `-` alone is a name, that of standard input or output
-unfoldable pub dashed : List ℕ → Bool
+abbrev pub dashed : List ℕ → Bool
 dashed x = ltb 1 (length x) && eqb (get_or x 0 0) 45
 
--- what an argument is that is none of the short options: a long option, an option that there is not, or a name
-unfoldable pub long_option_of : List ℕ → ℕ
-long_option_of x =
-    cond (is x "--help") help_option
-    (cond (is x "--version") version_option
-    (cond (dashed x) other_option a_name))
-
-unfoldable pub option_of : List ℕ → ℕ
+-- what an argument is that is no command: an option, one that there is not, or a name
+abbrev pub option_of : List ℕ → Word
 option_of x =
-    cond (is x "-o") output_option
-    (cond (is x "--") end_of_options
-    (cond (is x "-h") help_option
-    (long_option_of x)))
+    cond (is x "-o") word.OutputOption
+    (cond (is x "--") word.EndOfOptions
+    (cond (is x "-h" || is x "--help") word.HelpOption
+    (cond (is x "--version") word.VersionOption
+    (cond (dashed x) word.OtherOption word.Name))))
 
-unfoldable pub word_of : List ℕ → ℕ
+abbrev pub word_of : List ℕ → Word
 word_of x =
-    cond (is x "report") report
-    (cond (is x "mend") mend
-    (cond (is x "help") help
-    (cond (is x "version") version
+    cond (is x "report") (word.Command Report)
+    (cond (is x "mend") (word.Command Mend)
+    (cond (is x "help") (word.Command Help)
+    (cond (is x "version") (word.Command Version)
     (option_of x))))
 
 -- the name of standard input or output
-unfoldable pub standard : List ℕ → Bool
+abbrev pub standard : List ℕ → Bool
 standard x = is x "-"
 
--- ---- faults, with 0 for none
+-- ---- faults
 
-abbrev pub no_command : ℕ
-no_command = 1
-
-abbrev pub no_such_command : ℕ
-no_such_command = 2
-
-abbrev pub no_such_option : ℕ
-no_such_option = 3
-
-abbrev pub no_file : ℕ
-no_file = 4
-
-abbrev pub second_file : ℕ
-second_file = 5
-
-abbrev pub no_output : ℕ
-no_output = 6
-
-abbrev pub second_output : ℕ
-second_output = 7
-
-abbrev pub not_expected : ℕ
-not_expected = 8
+abbrev pub fault_numbered : ℕ → Fault
+fault_numbered n =
+    cond (eqb n 1) NoCommand
+    (cond (eqb n 2) NoSuchCommand
+    (cond (eqb n 3) NoSuchOption
+    (cond (eqb n 4) NoFile
+    (cond (eqb n 5) SecondFile
+    (cond (eqb n 6) NoOutput
+    (cond (eqb n 7) SecondOutput
+    NotExpected))))))
 
 -- ---- what the arguments so far ask for
 
--- how the next argument is read: 0 as any, 1 as the name of the output, 2 as a name
-abbrev pub output_next : ℕ
-output_next = 1
-
-abbrev pub names_only : ℕ
-names_only = 2
-
 abbrev pub nothing_yet : Invocation
-nothing_yet = record { command = 0; topic = 0; files = 0; file = 0; output = 0; state = 0; fault = 0; place = 0 }
+nothing_yet = record { command = None; topic = None; files = files.None; output = None; next = next.Any; misuse = None }
 
-abbrev pub faulty : Invocation → ℕ → ℕ → Invocation
-faulty p i f = record { command = p.command; topic = p.topic; files = p.files; file = p.file; output = p.output; state = p.state; fault = f; place = i }
+-- argument 0 is the command's own name, and stands for none
+abbrev pub numbered : ℕ → Option ℕ
+numbered i = cond (ltb 0 i) (Some i) None
 
-abbrev pub commanding : Invocation → ℕ → ℕ → Invocation
-commanding p n about = record { command = n; topic = about; files = p.files; file = p.file; output = p.output; state = p.state; fault = p.fault; place = p.place }
+abbrev pub faulty : Invocation → ℕ → Fault → Invocation
+faulty p i f = record { command = p.command; topic = p.topic; files = p.files; output = p.output; next = p.next; misuse = Some (record { fault = f; place = numbered i }) }
 
-abbrev pub in_state : Invocation → ℕ → Invocation
-in_state p s = record { command = p.command; topic = p.topic; files = p.files; file = p.file; output = p.output; state = s; fault = p.fault; place = p.place }
+abbrev pub commanding : Invocation → Command → Option Command → Invocation
+commanding p c about = record { command = Some c; topic = about; files = p.files; output = p.output; next = p.next; misuse = p.misuse }
+
+abbrev pub expecting : Invocation → Next → Invocation
+expecting p n = record { command = p.command; topic = p.topic; files = p.files; output = p.output; next = n; misuse = p.misuse }
 
 abbrev pub with_output : Invocation → ℕ → Invocation
-with_output p i = record { command = p.command; topic = p.topic; files = p.files; file = p.file; output = i; state = 0; fault = p.fault; place = p.place }
+with_output p i = record { command = p.command; topic = p.topic; files = p.files; output = numbered i; next = next.Any; misuse = p.misuse }
 
 -- the first file's place is kept, and whether there is none, one or more
-abbrev pub with_file : Invocation → ℕ → Invocation
-with_file p i =
-    cond (eqb p.files 0)
-    (record { command = p.command; topic = p.topic; files = 1; file = i; output = p.output; state = p.state; fault = p.fault; place = p.place })
-    (record { command = p.command; topic = p.topic; files = 2; file = p.file; output = p.output; state = p.state; fault = p.fault; place = p.place })
+abbrev pub one_more : Files → ℕ → Files
+one_more files.None i = files.One i
+one_more (files.One first) i = files.Several first
+one_more (files.Several first) i = files.Several first
 
--- a word that is a command's
-abbrev pub is_command : ℕ → Bool
-is_command w = ltb 0 w && ltb w output_option
+abbrev pub with_file : Invocation → ℕ → Invocation
+with_file p i = record { command = p.command; topic = p.topic; files = one_more p.files i; output = p.output; next = p.next; misuse = p.misuse }
 
 -- the first argument
-unfoldable pub first_word : Invocation → ℕ → ℕ → Invocation
-first_word p i w =
-    cond (is_command w) (commanding p w 0)
-    (cond (eqb w help_option) (commanding p help 0)
-    (cond (eqb w version_option) (commanding p version 0)
-    (cond (eqb w a_name) (faulty p i no_such_command) (faulty p i no_such_option))))
+abbrev pub first_word : Invocation → ℕ → Word → Invocation
+first_word p i (word.Command c) = commanding p c None
+first_word p i word.HelpOption = commanding p Help None
+first_word p i word.VersionOption = commanding p Version None
+first_word p i word.Name = faulty p i NoSuchCommand
+first_word p i _ = faulty p i NoSuchOption
 
-unfoldable pub only_file : Invocation → ℕ → Invocation
-only_file p i = cond (eqb p.files 0) (with_file p i) (faulty p i second_file)
+abbrev pub only_file : Invocation → ℕ → Invocation
+only_file p i = elim p.files [ files.None ↦ with_file p i | _ ↦ faulty p i SecondFile ]
 
-unfoldable pub help_topic : Invocation → ℕ → ℕ → Invocation
-help_topic p i w = cond (ltb 0 p.topic) (faulty p i not_expected) (cond (is_command w) (commanding p help w) (faulty p i no_such_command))
+abbrev pub help_topic : Invocation → ℕ → Word → Invocation
+help_topic p i w = elim p.topic [ Some about ↦ faulty p i NotExpected | None ↦ elim w [ word.Command c ↦ commanding p Help (Some c) | _ ↦ faulty p i NoSuchCommand ] ]
 
 -- argument i is a name, or a command's word where a name may stand
-unfoldable pub named : Invocation → ℕ → ℕ → Invocation
-named p i w =
-    cond (eqb p.command report) (with_file p i)
-    (cond (eqb p.command mend) (only_file p i)
-    (cond (eqb p.command help) (help_topic p i w)
-    (faulty p i not_expected)))
+abbrev pub named : Invocation → Command → ℕ → Word → Invocation
+named p Report i w = with_file p i
+named p Mend i w = only_file p i
+named p Help i w = help_topic p i w
+named p Version i w = faulty p i NotExpected
 
-unfoldable pub output : Invocation → ℕ → Invocation
-output p i = cond (eqb p.output 0) (in_state p output_next) (faulty p i second_output)
+abbrev pub output : Invocation → ℕ → Invocation
+output p i = elim p.output [ None ↦ expecting p next.Output | Some o ↦ faulty p i SecondOutput ]
 
-abbrev pub asks_output : Invocation → ℕ → Bool
-asks_output p w = eqb w output_option && eqb p.command mend
+abbrev pub option : Invocation → Command → ℕ → Word → Invocation
+option p c i word.HelpOption = commanding p Help (Some c)
+option p c i word.EndOfOptions = expecting p next.Name
+option p Mend i word.OutputOption = output p i
+option p _ i _ = faulty p i NoSuchOption
 
-unfoldable pub option : Invocation → ℕ → ℕ → Invocation
-option p i w =
-    cond (eqb w help_option) (commanding p help p.command)
-    (cond (eqb w end_of_options) (in_state p names_only)
-    (cond (asks_output p w) (output p i)
-    (faulty p i no_such_option)))
-
-abbrev pub may_name : Invocation → ℕ → Bool
-may_name p w = eqb p.state names_only || ltb w output_option
+abbrev pub may_name : Next → Word → Bool
+may_name next.Name w = true
+may_name _ word.Name = true
+may_name _ (word.Command c) = true
+may_name _ _ = false
 
 -- whether the next argument is one of the files that a report is asked on
-abbrev pub reports_on : Invocation → ℕ → Bool
-reports_on p w = eqb p.command report && may_name p w
+abbrev pub reports_on : Invocation → Word → Bool
+reports_on p w = elim p.command [ Some Report ↦ may_name p.next w | _ ↦ false ]
+
+abbrev pub next_word : Invocation → Command → ℕ → Word → Invocation
+next_word p c i w = if may_name p.next w then named p c i w else option p c i w
 
 -- one argument more, of number i
-unfoldable pub step : Invocation → ℕ → ℕ → Invocation
+abbrev pub step : Invocation → ℕ → Word → Invocation
 step p i w =
-    cond (ltb 0 p.fault) p
-    (cond (eqb p.state output_next) (with_output p i)
-    (cond (eqb p.command 0) (first_word p i w)
-    (cond (may_name p w) (named p i w)
-    (option p i w))))
+    elim p.misuse [
+      | Some m ↦ p
+      | None ↦
+          elim p.next [
+            | next.Output ↦ with_output p i
+            | _ ↦
+                elim p.command [ None ↦ first_word p i w | Some c ↦ next_word p c i w ]
+          ]
+    ]
 
-abbrev pub lacks_file : Invocation → Bool
-lacks_file p = ltb p.command help && eqb p.files 0
+abbrev pub lacking : Option Command → Next → Files → Option Fault
+lacking None n f = Some NoCommand
+lacking (Some c) next.Output f = Some NoOutput
+lacking (Some Report) _ files.None = Some NoFile
+lacking (Some Mend) _ files.None = Some NoFile
+lacking _ _ _ = None
 
 -- no argument more
-unfoldable pub finish : Invocation → Invocation
-finish p =
-    cond (ltb 0 p.fault) p
-    (cond (eqb p.command 0) (faulty p 0 no_command)
-    (cond (eqb p.state output_next) (faulty p 0 no_output)
-    (cond (lacks_file p) (faulty p 0 no_file) p)))
+abbrev pub finish : Invocation → Invocation
+finish p = elim p.misuse [ Some m ↦ p | None ↦ elim (lacking p.command p.next p.files) [ Some f ↦ faulty p 0 f | None ↦ p ] ]

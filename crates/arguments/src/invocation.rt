@@ -2,259 +2,261 @@
 ghost use Rattle.std.specs.Prelude.{◌≡◌};
 ghost use Rattle.arguments.specs.Arguments as model;
 
-use crate::argument::{
-    END_OF_OPTIONS, HELP, HELP_OPTION, MEND, NAME, OUTPUT_OPTION, REPORT, VERSION, VERSION_OPTION,
-};
+use crate::words::{Command, Word};
 
-pub const NO_COMMAND: u8 = 1;
+#[derive(Clone, Copy, PartialEq, Eq)]
+pub enum Fault {
+    NoCommand,
+    NoSuchCommand,
+    NoSuchOption,
+    NoFile,
+    SecondFile,
+    NoOutput,
+    SecondOutput,
+    NotExpected,
+}
 
-pub const NO_SUCH_COMMAND: u8 = 2;
+// Faults are known by these numbers too, of which any other is the last one's.
+impl From<u8> for Fault {
+    ghost from_gives = { λ number fault. fault ≡ model.fault_numbered number };
 
-pub const NO_SUCH_OPTION: u8 = 3;
+    fn from(number: u8) -> Fault {
+        match number {
+            1 => Fault::NoCommand,
+            2 => Fault::NoSuchCommand,
+            3 => Fault::NoSuchOption,
+            4 => Fault::NoFile,
+            5 => Fault::SecondFile,
+            6 => Fault::NoOutput,
+            7 => Fault::SecondOutput,
+            _ => Fault::NotExpected,
+        }
+    }
+}
 
-pub const NO_FILE: u8 = 4;
+// A fault, and the argument at fault, if none is missing.
+#[derive(Clone, Copy, PartialEq, Eq)]
+pub struct Misuse {
+    pub fault: Fault,
+    pub place: Option<usize>,
+}
 
-pub const SECOND_FILE: u8 = 5;
+// The files that are named, by the place of the first.
+#[derive(Clone, Copy, PartialEq, Eq)]
+pub enum Files {
+    None,
+    One(usize),
+    Several(usize),
+}
 
-pub const NO_OUTPUT: u8 = 6;
+// How the next argument is read.
+#[derive(Clone, Copy, PartialEq, Eq)]
+pub enum Next {
+    Any,
+    Output,
+    Name,
+}
 
-pub const SECOND_OUTPUT: u8 = 7;
-
-pub const NOT_EXPECTED: u8 = 8;
-
-const ANY: u8 = 0;
-
-const OUTPUT_NEXT: u8 = 1;
-
-const NAMES_ONLY: u8 = 2;
-
-// Arguments are named by their numbers, with 0 for none.
-#[derive(Clone, Copy)]
+#[derive(Clone, Copy, PartialEq, Eq)]
 pub struct Invocation {
-    pub command: u8,
+    pub command: Option<Command>,
     // The command that help is asked for.
-    pub topic: u8,
-    // 0 for no file, 1 for one, 2 for more.
-    pub files: u8,
-    pub file: usize,
-    pub output: usize,
-    // How the next argument is read.
-    pub state: u8,
-    pub fault: u8,
-    // The argument at fault.
-    pub place: usize,
+    pub topic: Option<Command>,
+    pub files: Files,
+    pub output: Option<usize>,
+    pub next: Next,
+    pub misuse: Option<Misuse>,
 }
 
 pub fn start() -> Invocation
     ensures { result ≡ model.nothing_yet }
 {
     Invocation {
-        command: 0,
-        topic: 0,
-        files: 0,
-        file: 0,
-        output: 0,
-        state: ANY,
-        fault: 0,
-        place: 0,
+        command: None,
+        topic: None,
+        files: Files::None,
+        output: None,
+        next: Next::Any,
+        misuse: None,
     }
 }
 
-fn faulty(invocation: Invocation, place: usize, fault: u8) -> Invocation
-    ensures { result ≡ model.faulty invocation place fault }
+// Argument 0 is the command's own name, and stands for none.
+fn numbered(place: usize) -> Option<usize>
+    ensures { result ≡ model.numbered place }
 {
-    let mut next = invocation;
-    next.fault = fault;
-    next.place = place;
-    next
+    if place > 0 { Some(place) } else { None }
 }
 
-fn commanding(invocation: Invocation, command: u8, topic: u8) -> Invocation
-    ensures { result ≡ model.commanding invocation command topic }
+fn may_name(next: Next, word: Word) -> bool
+    ensures { result ≡ model.may_name next word }
 {
-    let mut next = invocation;
-    next.command = command;
-    next.topic = topic;
-    next
+    matches!(
+        (next, word),
+        (Next::Name, _) | (_, Word::Name | Word::Command(_))
+    )
 }
 
-fn in_state(invocation: Invocation, state: u8) -> Invocation
-    ensures { result ≡ model.in_state invocation state }
-{
-    let mut next = invocation;
-    next.state = state;
-    next
-}
+impl Invocation {
+    fn faulty(self, place: usize, fault: Fault) -> Self
+        ensures { result ≡ model.faulty self place fault }
+    {
+        let misuse = Misuse {
+            fault,
+            place: numbered(place),
+        };
+        Self {
+            misuse: Some(misuse),
+            ..self
+        }
+    }
 
-fn with_output(invocation: Invocation, place: usize) -> Invocation
-    ensures { result ≡ model.with_output invocation place }
-{
-    let mut next = invocation;
-    next.output = place;
-    next.state = ANY;
-    next
-}
+    fn commanding(self, command: Command, topic: Option<Command>) -> Self
+        ensures { result ≡ model.commanding self command topic }
+    {
+        Self {
+            command: Some(command),
+            topic,
+            ..self
+        }
+    }
 
-fn with_file(invocation: Invocation, place: usize) -> Invocation
-    ensures { result ≡ model.with_file invocation place }
-{
-    let mut next = invocation;
-    if invocation.files == 0 {
-        next.files = 1;
-        next.file = place;
-    } else {
-        next.files = 2;
+    fn expecting(self, next: Next) -> Self
+        ensures { result ≡ model.expecting self next }
+    {
+        Self { next, ..self }
     }
-    next
-}
 
-fn is_command(word: u8) -> bool
-    ensures { result ≡ model.is_command word }
-{
-    0 < word && word < OUTPUT_OPTION
-}
+    fn with_output(self, place: usize) -> Self
+        ensures { result ≡ model.with_output self place }
+    {
+        Self {
+            output: numbered(place),
+            next: Next::Any,
+            ..self
+        }
+    }
 
-fn first_word(invocation: Invocation, place: usize, word: u8) -> Invocation
-    ensures { result ≡ model.first_word invocation place word }
-{
-    if is_command(word) {
-        return commanding(invocation, word, 0);
+    fn with_file(self, place: usize) -> Self
+        ensures { result ≡ model.with_file self place }
+    {
+        let files = match self.files {
+            Files::None => Files::One(place),
+            Files::One(first) | Files::Several(first) => Files::Several(first),
+        };
+        Self { files, ..self }
     }
-    if word == HELP_OPTION {
-        return commanding(invocation, HELP, 0);
-    }
-    if word == VERSION_OPTION {
-        return commanding(invocation, VERSION, 0);
-    }
-    if word == NAME {
-        return faulty(invocation, place, NO_SUCH_COMMAND);
-    }
-    faulty(invocation, place, NO_SUCH_OPTION)
-}
 
-fn only_file(invocation: Invocation, place: usize) -> Invocation
-    ensures { result ≡ model.only_file invocation place }
-{
-    if invocation.files == 0 {
-        return with_file(invocation, place);
+    fn first_word(self, place: usize, word: Word) -> Self
+        ensures { result ≡ model.first_word self place word }
+    {
+        match word {
+            Word::Command(command) => self.commanding(command, None),
+            Word::HelpOption => self.commanding(Command::Help, None),
+            Word::VersionOption => self.commanding(Command::Version, None),
+            Word::Name => self.faulty(place, Fault::NoSuchCommand),
+            _ => self.faulty(place, Fault::NoSuchOption),
+        }
     }
-    faulty(invocation, place, SECOND_FILE)
-}
 
-fn help_topic(invocation: Invocation, place: usize, word: u8) -> Invocation
-    ensures { result ≡ model.help_topic invocation place word }
-{
-    if invocation.topic > 0 {
-        return faulty(invocation, place, NOT_EXPECTED);
+    fn only_file(self, place: usize) -> Self
+        ensures { result ≡ model.only_file self place }
+    {
+        match self.files {
+            Files::None => self.with_file(place),
+            _ => self.faulty(place, Fault::SecondFile),
+        }
     }
-    if is_command(word) {
-        return commanding(invocation, HELP, word);
-    }
-    faulty(invocation, place, NO_SUCH_COMMAND)
-}
 
-fn named(invocation: Invocation, place: usize, word: u8) -> Invocation
-    ensures { result ≡ model.named invocation place word }
-{
-    if invocation.command == REPORT {
-        return with_file(invocation, place);
+    fn help_topic(self, place: usize, word: Word) -> Self
+        ensures { result ≡ model.help_topic self place word }
+    {
+        match (self.topic, word) {
+            (Some(_), _) => self.faulty(place, Fault::NotExpected),
+            (None, Word::Command(command)) => self.commanding(Command::Help, Some(command)),
+            (None, _) => self.faulty(place, Fault::NoSuchCommand),
+        }
     }
-    if invocation.command == MEND {
-        return only_file(invocation, place);
-    }
-    if invocation.command == HELP {
-        return help_topic(invocation, place, word);
-    }
-    faulty(invocation, place, NOT_EXPECTED)
-}
 
-fn output(invocation: Invocation, place: usize) -> Invocation
-    ensures { result ≡ model.output invocation place }
-{
-    if invocation.output == 0 {
-        return in_state(invocation, OUTPUT_NEXT);
+    fn named(self, command: Command, place: usize, word: Word) -> Self
+        ensures { result ≡ model.named self command place word }
+    {
+        match command {
+            Command::Report => self.with_file(place),
+            Command::Mend => self.only_file(place),
+            Command::Help => self.help_topic(place, word),
+            Command::Version => self.faulty(place, Fault::NotExpected),
+        }
     }
-    faulty(invocation, place, SECOND_OUTPUT)
-}
 
-fn asks_output(invocation: Invocation, word: u8) -> bool
-    ensures { result ≡ model.asks_output invocation word }
-{
-    word == OUTPUT_OPTION && invocation.command == MEND
-}
+    fn output(self, place: usize) -> Self
+        ensures { result ≡ model.output self place }
+    {
+        match self.output {
+            None => self.expecting(Next::Output),
+            Some(_) => self.faulty(place, Fault::SecondOutput),
+        }
+    }
 
-fn option(invocation: Invocation, place: usize, word: u8) -> Invocation
-    ensures { result ≡ model.option invocation place word }
-{
-    if word == HELP_OPTION {
-        return commanding(invocation, HELP, invocation.command);
+    fn option(self, command: Command, place: usize, word: Word) -> Self
+        ensures { result ≡ model.option self command place word }
+    {
+        match (word, command) {
+            (Word::HelpOption, _) => self.commanding(Command::Help, Some(command)),
+            (Word::EndOfOptions, _) => self.expecting(Next::Name),
+            (Word::OutputOption, Command::Mend) => self.output(place),
+            _ => self.faulty(place, Fault::NoSuchOption),
+        }
     }
-    if word == END_OF_OPTIONS {
-        return in_state(invocation, NAMES_ONLY);
-    }
-    if asks_output(invocation, word) {
-        return output(invocation, place);
-    }
-    faulty(invocation, place, NO_SUCH_OPTION)
-}
 
-fn may_name(invocation: Invocation, word: u8) -> bool
-    ensures { result ≡ model.may_name invocation word }
-{
-    invocation.state == NAMES_ONLY || word < OUTPUT_OPTION
+    fn next_word(self, command: Command, place: usize, word: Word) -> Self
+        ensures { result ≡ model.next_word self command place word }
+    {
+        if may_name(self.next, word) {
+            self.named(command, place, word)
+        } else {
+            self.option(command, place, word)
+        }
+    }
+
+    // What is missing where no argument is to come.
+    fn lacking(self) -> Option<Fault>
+        ensures { result ≡ model.lacking self.command self.next self.files }
+    {
+        match (self.command, self.next, self.files) {
+            (None, _, _) => Some(Fault::NoCommand),
+            (_, Next::Output, _) => Some(Fault::NoOutput),
+            (Some(Command::Report | Command::Mend), _, Files::None) => Some(Fault::NoFile),
+            _ => None,
+        }
+    }
 }
 
 // Whether an argument with this word, if all are in order, is one of the files that a report is asked on.
-pub fn reports_on(invocation: Invocation, word: u8) -> bool
+pub fn reports_on(invocation: Invocation, word: Word) -> bool
     ensures { result ≡ model.reports_on invocation word }
 {
-    if invocation.command == REPORT {
-        may_name(invocation, word)
-    } else {
-        false
-    }
+    invocation.command == Some(Command::Report) && may_name(invocation.next, word)
 }
 
 // One argument more: its number, and what it is.
-pub fn step(invocation: Invocation, place: usize, word: u8) -> Invocation
+pub fn step(invocation: Invocation, place: usize, word: Word) -> Invocation
     ensures { result ≡ model.step invocation place word }
 {
-    if invocation.fault > 0 {
-        return invocation;
+    match (invocation.misuse, invocation.next, invocation.command) {
+        (Some(_), _, _) => invocation,
+        (None, Next::Output, _) => invocation.with_output(place),
+        (None, _, None) => invocation.first_word(place, word),
+        (None, _, Some(command)) => invocation.next_word(command, place, word),
     }
-    if invocation.state == OUTPUT_NEXT {
-        return with_output(invocation, place);
-    }
-    if invocation.command == 0 {
-        return first_word(invocation, place, word);
-    }
-    if may_name(invocation, word) {
-        return named(invocation, place, word);
-    }
-    option(invocation, place, word)
-}
-
-fn lacks_file(invocation: Invocation) -> bool
-    ensures { result ≡ model.lacks_file invocation }
-{
-    invocation.command < HELP && invocation.files == 0
 }
 
 // No argument more.
 pub fn finish(invocation: Invocation) -> Invocation
     ensures { result ≡ model.finish invocation }
 {
-    if invocation.fault > 0 {
-        return invocation;
+    match (invocation.misuse, invocation.lacking()) {
+        (None, Some(fault)) => invocation.faulty(0, fault),
+        _ => invocation,
     }
-    if invocation.command == 0 {
-        return faulty(invocation, 0, NO_COMMAND);
-    }
-    if invocation.state == OUTPUT_NEXT {
-        return faulty(invocation, 0, NO_OUTPUT);
-    }
-    if lacks_file(invocation) {
-        return faulty(invocation, 0, NO_FILE);
-    }
-    invocation
 }

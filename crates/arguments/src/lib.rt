@@ -3,9 +3,8 @@
 
 mod argument;
 mod invocation;
+mod words;
 
-pub use argument::{HELP, MEND, REPORT, VERSION, is_standard, word};
-pub use invocation::{
-    Invocation, NO_COMMAND, NO_FILE, NO_OUTPUT, NO_SUCH_COMMAND, NO_SUCH_OPTION, SECOND_FILE,
-    SECOND_OUTPUT, finish, reports_on, start, step,
-};
+pub use argument::{is_standard, word};
+pub use invocation::{Fault, Files, Invocation, Misuse, Next, finish, reports_on, start, step};
+pub use words::{Command, UnknownCommand, Word};

@@ -1,8 +1,7 @@
 // The arguments, one by one.
-ghost use Rattle.std.specs.Prelude.{IfOk};
-ghost use Rattle.io.specs.Counts.{IsPrefixLen};
+ghost use Rattle.std.specs.Prelude.{◌≤◌, length};
 
-use arguments::Invocation;
+use arguments::{Invocation, Word};
 use std::env::FillError;
 use std::io::Error;
 use std::rt::Env;
@@ -10,37 +9,42 @@ use std::rt::Env;
 // The system's number for a name that is too long, ENAMETOOLONG.
 const TOO_LONG: i32 = 36;
 
+// The bytes of an argument, at the start of memory for the longest name.
+#[derive(Drop)]
+pub(crate) struct Argument {
+    memory: [u8; 4096],
+    len: usize,
+    ghost fits: { len ≤ length memory },
+}
+
+impl Argument {
+    // Argument i, which is too long for any name where it does not fit.
+    pub(crate) fn at(rt: &HostRuntime, i: usize) -> Result<Argument, Error> {
+        let mut memory = io::buffer();
+        match rt.arg(i, &mut memory) {
+            Ok(len) => Ok(Argument { memory, len }),
+            Err(_) => Err(Error::from_raw_os_error(TOO_LONG)),
+        }
+    }
+
+    pub(crate) fn as_bytes(&self) -> &[u8] {
+        &self.memory[..self.len]
+    }
+}
+
 fn is_given(rt: &HostRuntime, i: usize) -> bool {
     !matches!(rt.arg(i, &mut []), Err(FillError::NotPresent))
 }
 
 // How many arguments there are, the command's own name among them.
 pub(crate) fn count(rt: &HostRuntime) -> usize {
-    let mut count: usize = 0;
-    for i in 0..usize::MAX {
-        if !is_given(rt, i) {
-            break;
-        }
-        count = i + 1;
-    }
-    count
-}
-
-// Argument i, which is too long for any name where it does not fit.
-pub(crate) fn argument(rt: &HostRuntime, i: usize, word: &mut [u8]) -> Result<usize, Error>
-    ensures { IfOk result (λ n. IsPrefixLen n word.new) }
-{
-    match rt.arg(i, word) {
-        Ok(n) => Ok(n),
-        Err(_) => Err(Error::from_raw_os_error(TOO_LONG)),
-    }
+    (0..usize::MAX).take_while(|i| is_given(rt, *i)).count()
 }
 
 // What argument i is. One that is longer than any name is taken for a name, which can't be opened.
-pub(crate) fn word_at(rt: &HostRuntime, i: usize) -> u8 {
-    let mut word = io::buffer();
-    match argument(rt, i, &mut word) {
-        Ok(n) => arguments::word(&word[..n]),
+pub(crate) fn word_at(rt: &HostRuntime, i: usize) -> Word {
+    match Argument::at(rt, i) {
+        Ok(argument) => arguments::word(argument.as_bytes()),
         Err(_) => arguments::word(b""),
     }
 }
@@ -51,17 +55,4 @@ pub(crate) fn invocation(rt: &HostRuntime, count: usize) -> Invocation {
         invocation = arguments::step(invocation, i, word_at(rt, i));
     }
     arguments::finish(invocation)
-}
-
-// The argument that is at fault, or none where one is missing.
-pub(crate) fn argument_at_fault(rt: &HostRuntime, place: usize, word: &mut [u8]) -> usize
-    ensures { IsPrefixLen result word.new }
-{
-    if place == 0 {
-        return 0;
-    }
-    match argument(rt, place, word) {
-        Ok(n) => n,
-        Err(_) => 0,
-    }
 }

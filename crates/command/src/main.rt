@@ -7,7 +7,8 @@ mod mend;
 mod report;
 mod said;
 
-use arguments::{HELP, Invocation, MEND, VERSION};
+use arguments::{Command, Fault, Files, Invocation, Misuse};
+use asked::Argument;
 use exit_status::FAILED;
 use failure::Gone;
 use std::process::ExitCode;
@@ -19,31 +20,33 @@ fn main(rt: HostRuntime) -> ExitCode {
 }
 
 fn run(rt: &HostRuntime, count: usize, invocation: Invocation) -> Result<u8, Gone> {
-    if invocation.fault > 0 {
-        return refuse(rt, invocation);
+    if let Some(misuse) = invocation.misuse {
+        return refuse(rt, misuse);
     }
-    if invocation.command == HELP {
-        return help(rt, invocation.topic);
+    match (invocation.command, invocation.files) {
+        (Some(Command::Help), _) => help(rt, invocation.topic),
+        (Some(Command::Version), _) => version(rt),
+        (Some(Command::Mend), Files::One(file)) => mend::mend(rt, file, invocation.output),
+        (_, files) => report::report(rt, count, matches!(files, Files::Several(_))),
     }
-    if invocation.command == VERSION {
-        return version(rt);
-    }
-    if invocation.command == MEND {
-        return mend::mend(rt, invocation);
-    }
-    report::report(rt, count, invocation.files > 1)
 }
 
-fn refuse(rt: &HostRuntime, invocation: Invocation) -> Result<u8, Gone> {
-    let mut word = io::buffer();
-    let n = asked::argument_at_fault(rt, invocation.place, &mut word);
+// The argument at fault is not named where it is missing, or too long.
+fn refuse(rt: &HostRuntime, misuse: Misuse) -> Result<u8, Gone> {
+    match misuse.place.and_then(|place| Argument::at(rt, place).ok()) {
+        Some(word) => refuse_word(rt, misuse.fault, word.as_bytes()),
+        None => refuse_word(rt, misuse.fault, b""),
+    }
+}
+
+fn refuse_word(rt: &HostRuntime, fault: Fault, word: &[u8]) -> Result<u8, Gone> {
     let mut line = [0u8; 4352];
-    let k = messages::fault(invocation.fault, &word[..n], &mut line);
+    let k = messages::fault(fault, word, &mut line);
     said::say(rt, &line[..k])?;
     Ok(FAILED)
 }
 
-fn help(rt: &HostRuntime, topic: u8) -> Result<u8, Gone> {
+fn help(rt: &HostRuntime, topic: Option<Command>) -> Result<u8, Gone> {
     let mut text = [0u8; 4352];
     let k = messages::help(topic, &mut text);
     said::print(rt, &text[..k])

@@ -1,7 +1,6 @@
 // kw mend.
-use crate::asked::argument;
+use crate::asked::Argument;
 use crate::memory;
-use arguments::Invocation;
 use exit_status::FAILED;
 use failure::Gone;
 use layout::MAX_IMAGE_BYTES;
@@ -51,9 +50,8 @@ fn mend_file(rt: &HostRuntime, name: &[u8], target: &[u8], in_place: bool) -> Re
 }
 
 fn mend_into(rt: &HostRuntime, name: &[u8], output: usize) -> Result<u8, Gone> {
-    let mut target = io::buffer();
-    match argument(rt, output, &mut target) {
-        Ok(n) => mend_file(rt, name, &target[..n], false),
+    match Argument::at(rt, output) {
+        Ok(target) => mend_file(rt, name, target.as_bytes(), false),
         Err(error) => {
             files::fail(rt, b"-o", error)?;
             Ok(FAILED)
@@ -61,18 +59,18 @@ fn mend_into(rt: &HostRuntime, name: &[u8], output: usize) -> Result<u8, Gone> {
     }
 }
 
-fn mend_named(rt: &HostRuntime, name: &[u8], output: usize) -> Result<u8, Gone> {
-    if output > 0 {
+fn mend_named(rt: &HostRuntime, name: &[u8], output: Option<usize>) -> Result<u8, Gone> {
+    if let Some(output) = output {
         return mend_into(rt, name, output);
     }
     let in_place = !arguments::is_standard(name);
     mend_file(rt, name, name, in_place)
 }
 
-pub(crate) fn mend(rt: &HostRuntime, invocation: Invocation) -> Result<u8, Gone> {
-    let mut name = io::buffer();
-    match argument(rt, invocation.file, &mut name) {
-        Ok(n) => mend_named(rt, &name[..n], invocation.output),
+// Mends the file that argument `file` names, into the one that argument `output` names, or in place where there is none.
+pub(crate) fn mend(rt: &HostRuntime, file: usize, output: Option<usize>) -> Result<u8, Gone> {
+    match Argument::at(rt, file) {
+        Ok(name) => mend_named(rt, name.as_bytes(), output),
         Err(error) => {
             files::fail(rt, b"FILE", error)?;
             Ok(FAILED)

@@ -1,5 +1,5 @@
 // kw report.
-use crate::asked::argument;
+use crate::asked::Argument;
 use crate::memory;
 use exit_status::FAILED;
 use failure::Gone;
@@ -30,9 +30,8 @@ fn report_argument(
     image: &mut [u8],
     several: bool,
 ) -> Result<u8, Gone> {
-    let mut name = io::buffer();
-    match argument(rt, i, &mut name) {
-        Ok(n) => report_file(rt, &name[..n], image, several),
+    match Argument::at(rt, i) {
+        Ok(name) => report_file(rt, name.as_bytes(), image, several),
         Err(error) => {
             files::fail(rt, b"FILE", error)?;
             Ok(FAILED)

@@ -1,12 +1,11 @@
 -- A codeword corrected, and a run of them. Assumes nothing.
 use mathlib.Core.Path.{◌≡◌, refl, sym, ap, ◌∙◌}
 use mathlib.Core.Bool.{Bool, true, false, cond}
-use mathlib.Core.List.{List, [], ◌∷◌, ◌++◌, append_assoc, append-nil}
+use mathlib.Core.List.{List, [], ◌∷◌, ◌++◌, append-nil}
 use Prim.Native.Nat.{ℕ, suc, ◌+◌, ◌-◌, ◌*◌, ◌≤◌, ◌<◌}
 use native.Mathlib.Nat.{zero-add}
 use native.Mathlib.Omega.{arith}
-use borrow.Rule.Slice.PartMut.{put_mid, Post-is}
-use lib.ListN.{length, take, drop, set, drop_of_length-le}
+use lib.ListN.{length, drop, set, drop_of_length-le}
 use lib.Seq.{sets, sets-eq}
 use Rattle.model.specs.Bytes.{at, word_at, le_bytes}
 use Rattle.model.specs.Parity.{Class, clean, uncorrectable, check_of, decode, Outcome, clean_word, corrected_word, uncorrectable_word, outcome}
@@ -23,12 +22,6 @@ use Rattle.correcting.specs.Correct.{stored_as, correct_at, correct_all, met}
 pub stored_all : (x ys : List ℕ) → length x ≡ length ys → sets x 0 ys ≡ ys
 stored_all x ys e =
     sets-eq ys x 0 (omega (arith, e)) ∙ ap (λ (z : List ℕ). ys ++ z) (ap (λ (n : ℕ). drop n x) (zero-add (length ys)) ∙ drop_of_length-le x {i = length ys} (omega (arith, e))) ∙ append-nil ys
-
-pub put_part : (x ys : List ℕ) (a b : ℕ) → a ≤ b → b ≤ length x → length ys ≡ b - a → put_mid a (b - a) x ys ≡ sets x a ys
-put_part x ys a b h l e =
-    let n : a + length ys ≡ b = omega arith in
-    ap (λ (z : List ℕ). take a x ++ (ys ++ z)) (Post-is a b x h ∙ ap (λ (k : ℕ). drop k x) (sym n))
-    ∙ sym (sets-eq ys x a (omega arith) ∙ append_assoc (take a x) ys (drop (a + length ys) x))
 
 -- ---- what a codeword is left as
 

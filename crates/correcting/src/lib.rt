@@ -7,14 +7,13 @@ ghost use Rattle.model.specs.Bytes.{at, le_bytes, word_at};
 ghost use Rattle.model.specs.Parity.{check_of, outcome};
 ghost use Rattle.model.specs.Scan.{codewords_in, report};
 ghost use Rattle.ecc.specs.Answers.{as_outcome, as_report};
-ghost use Rattle.ecc.specs.CheckTable.{IsCheckTable};
 ghost use Rattle.scan.specs.Runs.{codewords_of, visits_at, Fits};
 ghost use Rattle.scan.specs.Answers.{as_scan};
 ghost use Rattle.scan.specs.Tally.{reported, or_zeros};
 ghost use Rattle.correcting.specs.Correct.{correct_at, correct_all, met};
 
-use ecc::{CheckTable, EccReport, WordStatus, check_byte_with, decode_word_with};
-use put::put_u64;
+use ecc::{CheckTable, EccReport, WordStatus};
+use put::put_number;
 use scalar::u64_or_zero;
 use scan::{ProtectedRun, count_word, protected_run_at};
 use view::Header;
@@ -24,28 +23,28 @@ fn store_word(part: &mut [u8], word: u64)
     requires { length part.old ≡ 8 }
     ensures { part.new ≡ le_bytes 8 word }
 {
-    put_u64(part, 0, word);
+    put_number(part, 0, word);
 }
 
 // Stores the check byte of a word, if asked to.
-fn store_check(table: &CheckTable, bytes: &mut [u8], check: usize, word: u64, with_check: bool)
-    requires { (check < length bytes.old) × IsCheckTable table.now }
+fn store_check(table: CheckTable, bytes: &mut [u8], check: usize, word: u64, with_check: bool)
+    requires { check < length bytes.old }
     ensures { bytes.new ≡ cond with_check (set bytes.old check (check_of word)) bytes.old }
 {
     if with_check {
-        bytes[check] = check_byte_with(table, word);
+        bytes[check] = table.check_byte(word);
     }
 }
 
 // Decodes a word with its check byte, and writes it where it was corrected.
 fn correct_word(
-    table: &CheckTable,
+    table: CheckTable,
     bytes: &mut [u8],
     word: usize,
     check: usize,
     with_check: bool,
 ) -> WordStatus
-    requires { (8 * word + 8 ≤ length bytes.old) × (check < length bytes.old) × IsCheckTable table.now }
+    requires { (8 * word + 8 ≤ length bytes.old) × (check < length bytes.old) }
     ensures is { as_outcome result ≡ outcome (word_at bytes.old word) (at bytes.old check) }
     ensures stores { bytes.new ≡ correct_at with_check (record { word = word; check = check }) bytes.old }
 {
@@ -53,12 +52,12 @@ fn correct_word(
     let end = start + 8;
     let data = u64_or_zero(bytes, start);
     let found = bytes[check];
-    let expected = check_byte_with(table, data);
+    let expected = table.check_byte(data);
     // A clean word, which nearly every one is, is decoded no further.
     if expected == found {
         return WordStatus::Clean(data);
     }
-    let status = decode_word_with(table, data, found);
+    let status = table.decode_word(data, found);
     match status {
         WordStatus::Clean(_) => {}
         WordStatus::Corrected(fixed) => {
@@ -72,12 +71,12 @@ fn correct_word(
 
 // Corrects the words of a run, ascending, and counts them. Each is read as it then stands.
 fn correct_run(
-    table: &CheckTable,
+    table: CheckTable,
     bytes: &mut [u8],
     run: ProtectedRun,
     with_check: bool,
 ) -> EccReport
-    requires { Fits bytes.old run × IsCheckTable table.now }
+    requires { Fits bytes.old run }
     ensures leaves { bytes.new ≡ correct_all with_check (codewords_of run) bytes.old }
     ensures tells { as_report result ≡ report (met with_check bytes.old (codewords_of run)) }
 {
@@ -91,13 +90,12 @@ fn correct_run(
 
 // Corrects the protected run of entry i of the image as it stands, and says what was met; nothing where the entry has no run.
 pub fn correct_region(
-    table: &CheckTable,
+    table: CheckTable,
     bytes: &mut [u8],
     header: Header,
     i: u16,
     with_check: bool,
 ) -> Option<EccReport>
-    requires { IsCheckTable table.now }
     ensures leaves { bytes.new ≡ correct_all with_check (codewords_in (visits_at header.region_count bytes.old i)) bytes.old }
     ensures tells { as_scan result ≡ reported (visits_at header.region_count bytes.old i) (met with_check bytes.old (codewords_in (visits_at header.region_count bytes.old i))) }
     ensures few { (or_zeros (as_scan result)).words < 2 ^ 32 }

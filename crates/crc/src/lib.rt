@@ -36,8 +36,8 @@ pub fn crc32(bytes: &[u8]) -> u32
     ensures crc32 { Crc32 bytes.now result }
 {
     let mut crc: u32 = 0xFFFF_FFFF;
-    for i in 0..bytes.len() {
-        crc = feed(crc, bytes[i]);
+    for byte in bytes {
+        crc = feed(crc, *byte);
     }
     !crc
 }

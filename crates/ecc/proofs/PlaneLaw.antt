@@ -1,7 +1,7 @@
 -- A word of a plane's region and a run of them, as the code takes them: by number, and one after the other. Assumes nothing.
 use mathlib.Core.Path.{◌≡◌, sym, ap, ◌∙◌}
 use mathlib.Core.List.{List, []}
-use Rattle.std.specs.Prelude.{None, Some}
+use Rattle.std.specs.Prelude.{None, Some, unwrap_or}
 use Prim.Native.Nat.{ℕ, ◌+◌, ◌*◌, ◌≤◌, ◌<◌}
 use native.Mathlib.Numerals.{add-one}
 use native.Mathlib.Omega.{arith}
@@ -13,7 +13,6 @@ use Rattle.model.specs.Bytes.{at, read_in, word_at, tabulate}
 use Rattle.model.specs.Parity.{Class, class_of, Outcome, outcome}
 use Rattle.model.specs.Scan.{is_corrected, is_uncorrectable, total, report, slice_words, slice_word}
 use Rattle.model.proofs.BytesLaw.{length-tabulate, drop-tabulate}
-use Rattle.scalar.specs.Answers.{or_zero}
 use Rattle.scalar.proofs.OrZero.{or_zero_in}
 use Rattle.ecc.specs.CheckTable.{check_with, decode_with, slice_scan_with}
 
@@ -28,7 +27,7 @@ module _ (x plane : List ℕ) where
   word_there w h = rw (lt-ltb w (slice_words x plane) h)
 
   -- v was read at 8 * w: what it decodes to, word w decodes to
-  module _ (w v : ℕ) (h : 8 * w + 8 ≤ length x) (e : v ≡ or_zero (read_in 8 x (8 * w))) where
+  module _ (w v : ℕ) (h : 8 * w + 8 ≤ length x) (e : v ≡ unwrap_or (read_in 8 x (8 * w)) 0) where
     word_read : v ≡ word_at x w
     word_read = e ∙ or_zero_in 8 x (8 * w) h
 

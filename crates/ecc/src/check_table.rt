@@ -3,59 +3,89 @@
 ghost use Rattle.std.specs.Prelude.{◌≡◌, ◌+◌, ◌*◌, ◌^◌, ◌<◌};
 ghost use Rattle.model.specs.Bytes.{at};
 ghost use Rattle.model.specs.Parity as model;
+ghost use Rattle.model.specs.Scan.{slice_scan};
 ghost use Rattle.ecc.specs.Answers.{as_outcome, as_report};
 ghost use Rattle.ecc.specs.CheckTable.{IsCheckTable, Filled, entry_for, check_with, outcome_with, slice_scan_with};
 
 use super::{COLUMNS, EccReport, WordStatus, one_if_corrected, plane_words, status_of};
 
-pub type CheckTable = [u8; 2048];
+// A table for `CheckTable::new` to fill.
+pub const EMPTY_TABLE: [u8; 2048] = [0u8; 2048];
 
-// A table for fill_check_table to fill.
-pub const EMPTY_TABLE: CheckTable = [0u8; 2048];
+// The table of check bytes, in a buffer that is lent: a copy of it is a pointer. Returned by value, the buffer itself would be
+// copied by `memcpy`, and firmware may have none.
+#[derive(Clone, Copy)]
+pub struct CheckTable<'a> {
+    entries: &'a [u8; 2048],
+    ghost right: { IsCheckTable entries.now },
+}
+
+impl<'a> CheckTable<'a> {
+    // It takes less than a microsecond: make it once for many words, and hand it on.
+    pub fn new(room: &'a mut [u8; 2048]) -> CheckTable<'a> {
+        fill_check_table(room);
+        CheckTable { entries: room }
+    }
+
+    #[tactic(auto, using(crate::proofs::CheckTableLaw::table_check))]
+    pub fn check_byte(self, data: u64) -> u8
+        ensures { result ≡ model.check_of «data» }
+    {
+        check_byte_with(self.entries, data)
+    }
+
+    #[tactic(auto, using(crate::proofs::CheckTableLaw::table_outcome))]
+    pub fn decode_word(self, data: u64, check: u8) -> WordStatus
+        ensures { as_outcome result ≡ model.outcome «data» check }
+    {
+        decode_word_with(self.entries, data, check)
+    }
+
+    #[tactic(auto, using(crate::proofs::CheckTableLaw::table_scan))]
+    pub fn plane_scan(self, parity: &[u8], data: &[u8]) -> EccReport
+        ensures { as_report result ≡ slice_scan «data».now parity.now }
+    {
+        plane_scan_with(self.entries, parity, data)
+    }
+}
 
 // Entries 2^i to 2^(i+1) - 1 of place k: each is the entry 2^i below it, with the column of bit 8k + i put in. Sixteen are made at once.
-fn fill_bit(table: &mut CheckTable, k: usize, i: usize, column: u8)
+fn fill_bit(table: &mut [u8; 2048], k: usize, i: usize, column: u8)
     requires { (k < 8) × (i < 8) × (column ≡ at model.columns (8 * k + i)) × Filled (256 * k + 2 ^ i) table.old }
     ensures { Filled (256 * k + 2 ^ (i + 1)) table.new }
 {
     let first = 256 * k;
     let count = 1usize << i;
-    let mut j: usize = 0;
-    while j < count {
+    for j in 0..count {
         table[first + count + j] = table[first + j] ^ column;
-        j += 1;
     }
 }
 
 // The 256 entries of place k.
-fn fill_place(table: &mut CheckTable, columns: &[u8; 72], k: usize)
+fn fill_place(table: &mut [u8; 2048], columns: &[u8; 72], k: usize)
     requires { (k < 8) × (columns.now ≡ model.columns) × Filled (256 * k) table.old }
     ensures { Filled (256 * (k + 1)) table.new }
 {
     table[256 * k] = 0;
-    let mut i: usize = 0;
-    while i < 8 {
+    for i in 0..8usize {
         fill_bit(table, k, i, columns[8 * k + i]);
-        i += 1;
     }
 }
 
 // The whole table, whatever was in it. It takes less than a microsecond: fill it once for many words, and lend it.
-pub fn fill_check_table(table: &mut CheckTable)
+pub fn fill_check_table(table: &mut [u8; 2048])
     ensures { IsCheckTable table.new }
 {
     // The assignment tells the prover that the table has 2,048 entries; all of them are written below.
     *table = EMPTY_TABLE;
     let columns = COLUMNS;
-    let mut k: usize = 0;
-    while k < 8 {
+    for k in 0..8usize {
         fill_place(table, &columns, k);
-        k += 1;
     }
 }
 
 // The entry of the byte in place k.
-fn entry_for(table: &CheckTable, data: u64, k: usize) -> u8
+fn entry_for(table: &[u8; 2048], data: u64, k: usize) -> u8
     requires { k < 8 }
     ensures { result ≡ entry_for table.now «data» k }
 {
@@ -63,7 +93,7 @@ fn entry_for(table: &CheckTable, data: u64, k: usize) -> u8
 }
 
 // The check byte, by the table.
-pub fn check_byte_with(table: &CheckTable, data: u64) -> u8
+pub fn check_byte_with(table: &[u8; 2048], data: u64) -> u8
     ensures { result ≡ check_with table.now «data» }
 {
     entry_for(table, data, 0)
@@ -77,21 +107,20 @@ pub fn check_byte_with(table: &CheckTable, data: u64) -> u8
 }
 
 // What a word and its check byte say, by the table.
-pub fn decode_word_with(table: &CheckTable, data: u64, check: u8) -> WordStatus
+pub fn decode_word_with(table: &[u8; 2048], data: u64, check: u8) -> WordStatus
     ensures { as_outcome result ≡ outcome_with table.now «data» check }
 {
     status_of(data, check_byte_with(table, data) ^ check)
 }
 
 // Every word of the data that has its byte in the plane, by the table.
-pub fn plane_scan_with(table: &CheckTable, parity: &[u8], data: &[u8]) -> EccReport
+pub fn plane_scan_with(table: &[u8; 2048], parity: &[u8], data: &[u8]) -> EccReport
     ensures { as_report result ≡ slice_scan_with table.now «data».now parity.now }
 {
     let words = plane_words(parity, data);
     let mut corrected: usize = 0;
     let mut uncorrectable: usize = 0;
-    let mut w: usize = 0;
-    while w < words {
+    for w in 0..words {
         let word = scalar::u64_or_zero(data, 8 * w);
         let syndrome = check_byte_with(table, word) ^ parity[w];
         // A clean word, which nearly every one is, counts for nothing.
@@ -100,7 +129,6 @@ pub fn plane_scan_with(table: &CheckTable, parity: &[u8], data: &[u8]) -> EccRep
             corrected += one;
             uncorrectable += 1 - one;
         }
-        w += 1;
     }
     EccReport {
         words,

@@ -4,9 +4,9 @@
 mod check_table;
 
 ghost use Rattle.std.specs.Prelude.{◌≡◌, ◌&&◌, ◌-◌, ◌*◌, ◌≤◌, eqb, ltb, length};
-ghost use Rattle.model.specs.Parity.{columns, find, check_of, class_of, outcome_as, outcome, plane_kind};
+ghost use Rattle.model.specs.Parity.{columns, find, check_of, class_of, flipped_at, outcome_as, outcome, plane_kind};
 ghost use Rattle.model.specs.Scan.{is_corrected, is_uncorrectable, slice_words, slice_word, slice_scan};
-ghost use Rattle.ecc.specs.Answers.{as_outcome, as_word, as_report, place_in, class_of_bit};
+ghost use Rattle.ecc.specs.Answers.{as_outcome, as_word, as_report};
 
 pub use check_table::{
     CheckTable, EMPTY_TABLE, check_byte_with, decode_word_with, fill_check_table, plane_scan_with,
@@ -38,14 +38,12 @@ pub fn check_byte(data: u64) -> u8
 {
     let table = COLUMNS;
     let mut s: u8 = 0;
-    let mut i: usize = 0;
-    while i < 64 {
+    for i in 0..64usize {
         // Bit i out of its byte: on bytes the compiler takes sixteen columns at once.
         let byte = ((data >> (i / 8 * 8)) % 256) as u8;
         if (byte >> (i % 8)) % 2 == 1 {
             s ^= table[i];
         }
-        i += 1;
     }
     s
 }
@@ -58,29 +56,31 @@ pub enum WordStatus {
     Uncorrectable,
 }
 
-// The place of the syndrome among the columns, or 72. The loop always runs to its end, which is compiled to wide compares.
-fn column_of(syndrome: u8) -> usize
-    ensures { (result ≡ place_in (find syndrome columns)) × (result ≤ 72) }
+// The place of the syndrome among the columns. The loop always runs to its end, which is compiled to wide compares; `position` would
+// leave it at the column, and jump for each.
+fn column_of(syndrome: u8) -> Option<usize>
+    ensures { result ≡ find syndrome columns }
 {
     let table = COLUMNS;
     let mut left: u8 = 0;
-    let mut i: u8 = 0;
-    while i < 72 {
+    for i in 0..72u8 {
         if table[i as usize] == syndrome {
             left |= 72 - i;
         }
-        i += 1;
     }
-    72 - (left as usize)
+    if left == 0 {
+        return None;
+    }
+    Some(72 - (left as usize))
 }
 
-// The one bit of the 72 whose flip leaves this syndrome, which is not 0; 72 where there is none.
-fn flipped_bit(syndrome: u8) -> usize
+// The one bit of the 72 whose flip leaves this syndrome, which is not 0.
+fn flipped_bit(syndrome: u8) -> Option<usize>
     requires { syndrome ≡ 0 → ⊥ }
-    ensures { (class_of syndrome ≡ class_of_bit result) × (result ≤ 72) }
+    ensures { class_of syndrome ≡ flipped_at result }
 {
     if u8::count_ones(syndrome) % 2 == 0 {
-        return 72;
+        return None;
     }
     column_of(syndrome)
 }
@@ -92,15 +92,12 @@ fn status_of(data: u64, syndrome: u8) -> WordStatus
     if syndrome == 0 {
         return WordStatus::Clean(data);
     }
-    let i = flipped_bit(syndrome);
-    if i < 64 {
-        return WordStatus::Corrected(data ^ (1u64 << i));
-    }
-    if i < 72 {
+    match flipped_bit(syndrome) {
+        Some(i) if i < 64 => WordStatus::Corrected(data ^ (1u64 << i)),
         // The flipped bit is in the check byte; the data is right.
-        return WordStatus::Corrected(data);
+        Some(_) => WordStatus::Corrected(data),
+        None => WordStatus::Uncorrectable,
     }
-    WordStatus::Uncorrectable
 }
 
 pub fn decode_word(data: u64, check: u8) -> WordStatus
@@ -134,16 +131,12 @@ impl EccReport {
 }
 
 // How many words have their byte: the whole words of the data, or the bytes of the plane if those are fewer.
+#[tactic(auto, unfolding(model::specs::Scan::slice_words))]
 fn plane_words(parity: &[u8], data: &[u8]) -> usize
     ensures { (result ≡ slice_words «data».now parity.now)
         × (result * 8 ≤ length «data».now) × (result ≤ length parity.now) }
 {
-    let words = data.len() / 8;
-    if words < parity.len() {
-        words
-    } else {
-        parity.len()
-    }
+    (data.len() / 8).min(parity.len())
 }
 
 // Word `index` of the data with byte `index` of its plane; nothing where the index lies outside the data or the plane.
@@ -161,14 +154,13 @@ fn one_if_corrected(syndrome: u8) -> usize
     requires { syndrome ≡ 0 → ⊥ }
     ensures { (result ≡ is_corrected (class_of syndrome)) × (1 - result ≡ is_uncorrectable (class_of syndrome)) × (result ≤ 1) }
 {
-    if flipped_bit(syndrome) < 72 { 1 } else { 0 }
+    usize::from(flipped_bit(syndrome).is_some())
 }
 
 // Every word of the data that has its byte in the plane, by a table of its own.
 pub fn plane_scan(parity: &[u8], data: &[u8]) -> EccReport
     ensures { as_report result ≡ slice_scan «data».now parity.now }
 {
-    let mut table = EMPTY_TABLE;
-    fill_check_table(&mut table);
-    plane_scan_with(&table, parity, data)
+    let mut room = EMPTY_TABLE;
+    CheckTable::new(&mut room).plane_scan(parity, data)
 }

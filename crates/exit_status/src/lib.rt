@@ -1,15 +1,16 @@
 // What is wrong with an image, and the exit status that says so. (FORMAT 14)
 #![tactic(auto)]
 
-ghost use Rattle.std.specs.Prelude.{◌≡◌, ◌||◌, max};
+ghost use Rattle.std.specs.Prelude.{◌≡◌, max};
 ghost use Rattle.scan.specs.Answers.{as_scan};
-ghost use Rattle.exit_status.specs.Verdicts.{damaged_in, verdict_if, report_verdict, mending_verdict, writes_file, status_of};
+ghost use Rattle.exit_status.specs.Verdicts.{verdict_on, damaged_in, verdict_if, report_verdict, mending_verdict, writes_file, status_of};
 
+use ecc::EccReport;
 use error::Refusal;
-use findings::{Found, Outcome};
-use scan::ScanResult;
+use findings::{Findings, Rejected};
+use mending::Mending;
 
-#[derive(Clone, Copy)]
+#[derive(Clone, Copy, Debug, PartialEq, Eq)]
 pub enum Verdict {
     Sound,
     Damaged,
@@ -17,19 +18,24 @@ pub enum Verdict {
     Refused(Refusal),
 }
 
-fn is_damaged(report: ScanResult) -> bool
-    ensures { result ≡ damaged_in (as_scan report) }
-{
-    match report {
-        ScanResult::Nothing => false,
-        ScanResult::Report(counts) => either(counts.corrected > 0, counts.uncorrectable > 0),
+impl From<Rejected> for Verdict {
+    ghost from_gives = { λ r v. v ≡ verdict_on r };
+
+    fn from(rejected: Rejected) -> Verdict {
+        match rejected {
+            Rejected::TooLong => Verdict::TooLong,
+            Rejected::Refused(refusal) => Verdict::Refused(refusal),
+        }
     }
 }
 
-fn either(a: bool, b: bool) -> bool
-    ensures { result ≡ (a || b) }
+fn is_damaged(report: Option<EccReport>) -> bool
+    ensures { result ≡ damaged_in (as_scan report) }
 {
-    a || b
+    match report {
+        Some(counts) => counts.corrected > 0 || counts.uncorrectable > 0,
+        None => false,
+    }
 }
 
 fn verdict_if(damaged: bool) -> Verdict
@@ -42,43 +48,32 @@ fn verdict_if(damaged: bool) -> Verdict
     }
 }
 
-pub fn report_verdict(found: Found) -> Verdict
+pub fn report_verdict(found: Result<Findings, Rejected>) -> Verdict
     ensures { result ≡ report_verdict found }
 {
     match found {
-        Found::TooLong => Verdict::TooLong,
-        Found::Refused(refusal) => Verdict::Refused(refusal),
-        Found::Image(f) => {
-            let report = f.report;
-            let damaged = is_damaged(report);
-            verdict_if(either(f.needs_scrub, damaged))
-        }
+        Ok(f) => verdict_if(f.needs_scrub || is_damaged(f.report)),
+        Err(rejected) => rejected.into(),
     }
 }
 
 // What is wrong with an image once it is mended.
-pub fn mending_verdict(outcome: Outcome) -> Verdict
+pub fn mending_verdict(outcome: Result<Mending, Rejected>) -> Verdict
     ensures { result ≡ mending_verdict outcome }
 {
     match outcome {
-        Outcome::TooLong => Verdict::TooLong,
-        Outcome::Refused(refusal) => Verdict::Refused(refusal),
-        Outcome::Mended(mending) => {
-            let report = mending.report;
-            let uncorrectable = findings::uncorrectable_in(report);
-            verdict_if(uncorrectable > 0)
-        }
+        Ok(mending) => verdict_if(findings::uncorrectable_in(mending.report) > 0),
+        Err(rejected) => rejected.into(),
     }
 }
 
 // Whether there is a file to write: an image that is mended into another, or that mending changed.
-pub fn is_written(outcome: Outcome, in_place: bool) -> bool
+pub fn is_written(outcome: Result<Mending, Rejected>, in_place: bool) -> bool
     ensures { result ≡ writes_file outcome in_place }
 {
     match outcome {
-        Outcome::TooLong => false,
-        Outcome::Refused(_) => false,
-        Outcome::Mended(mending) => either(!in_place, mending.stored > 0),
+        Ok(mending) => !in_place || mending.stored > 0,
+        Err(_) => false,
     }
 }
 
@@ -99,5 +94,5 @@ pub fn status(verdict: Verdict) -> u8
 pub fn higher(a: u8, b: u8) -> u8
     ensures { result ≡ max a b }
 {
-    if a < b { b } else { a }
+    u8::max(a, b)
 }

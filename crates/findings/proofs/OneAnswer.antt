@@ -11,15 +11,15 @@ use Rattle.mending.specs.Answers.{as_mending}
 use Rattle.mending.proofs.OneAnswer.{one_mending}
 use Rattle.findings.specs.Answers.{as_found, as_outcome}
 use Rattle.findings.specs.declared.Findings.{Findings}
-use Rattle.findings.specs.declared.Found.{Found}
-use Rattle.findings.specs.declared.Found.TheVariants as found
-use Rattle.findings.specs.declared.Outcome.{Outcome}
-use Rattle.findings.specs.declared.Outcome.TheVariants as outcome
+use Rattle.std.specs.Prelude.{Result, Ok, Err}
+use Rattle.mending.specs.declared.Mending.{Mending}
+use Rattle.findings.specs.declared.Rejected.{Rejected}
+use Rattle.findings.specs.declared.Rejected.TheVariants.{TooLong, Refused}
 use Rattle.findings.proofs.look.Reads as look
 use Rattle.findings.proofs.mend_within.Reads as mend-within
 use Rattle.findings.proofs.uncorrectable_in.Reads as uncorrectable-in
 
-one_finding : (f g : Findings) → as_found (found.Image f) ≡ as_found (found.Image g) → f ≡ g
+one_finding : (f g : Findings) → as_found (Ok f) ≡ as_found (Ok g) → f ≡ g
 one_finding f g e =
     let s : as_scan f.report ≡ as_scan g.report = cc in
     let r : f.report ≡ g.report = one_scan f.report g.report s in
@@ -27,27 +27,27 @@ one_finding f g e =
     let b : f.needs_scrub ≡ g.needs_scrub = cc in
     rw (n, b, r) refl
 
-pub one_found : (a b : Found) → as_found a ≡ as_found b → a ≡ b
-one_found found.TooLong found.TooLong e = refl
-one_found found.TooLong (found.Refused q) e = cc
-one_found found.TooLong (found.Image g) e = cc
-one_found (found.Refused r) found.TooLong e = cc
-one_found (found.Refused r) (found.Refused q) e = let v : as_verdict r ≡ as_verdict q = cc in ap found.Refused (one_refusal r q v)
-one_found (found.Refused r) (found.Image g) e = cc
-one_found (found.Image f) found.TooLong e = cc
-one_found (found.Image f) (found.Refused q) e = cc
-one_found (found.Image f) (found.Image g) e = ap found.Image (one_finding f g e)
+pub one_found : (a b : Result Findings Rejected) → as_found a ≡ as_found b → a ≡ b
+one_found (Err TooLong) (Err TooLong) e = refl
+one_found (Err TooLong) (Err (Refused q)) e = cc
+one_found (Err TooLong) (Ok g) e = cc
+one_found (Err (Refused r)) (Err TooLong) e = cc
+one_found (Err (Refused r)) (Err (Refused q)) e = let v : as_verdict r ≡ as_verdict q = cc in ap (λ r. Err (Refused r)) (one_refusal r q v)
+one_found (Err (Refused r)) (Ok g) e = cc
+one_found (Ok f) (Err TooLong) e = cc
+one_found (Ok f) (Err (Refused q)) e = cc
+one_found (Ok f) (Ok g) e = ap Ok (one_finding f g e)
 
-pub one_outcome : (a b : Outcome) (x y : List ℕ) → as_outcome a x ≡ as_outcome b y → a ≡ b
-one_outcome outcome.TooLong outcome.TooLong x y e = refl
-one_outcome outcome.TooLong (outcome.Refused q) x y e = cc
-one_outcome outcome.TooLong (outcome.Mended n) x y e = cc
-one_outcome (outcome.Refused r) outcome.TooLong x y e = cc
-one_outcome (outcome.Refused r) (outcome.Refused q) x y e = let v : as_verdict r ≡ as_verdict q = cc in ap outcome.Refused (one_refusal r q v)
-one_outcome (outcome.Refused r) (outcome.Mended n) x y e = cc
-one_outcome (outcome.Mended m) outcome.TooLong x y e = cc
-one_outcome (outcome.Mended m) (outcome.Refused q) x y e = cc
-one_outcome (outcome.Mended m) (outcome.Mended n) x y e = let f : as_mending m x ≡ as_mending n y = cc in ap outcome.Mended (one_mending m n x y f)
+pub one_outcome : (a b : Result Mending Rejected) (x y : List ℕ) → as_outcome a x ≡ as_outcome b y → a ≡ b
+one_outcome (Err TooLong) (Err TooLong) x y e = refl
+one_outcome (Err TooLong) (Err (Refused q)) x y e = cc
+one_outcome (Err TooLong) (Ok n) x y e = cc
+one_outcome (Err (Refused r)) (Err TooLong) x y e = cc
+one_outcome (Err (Refused r)) (Err (Refused q)) x y e = let v : as_verdict r ≡ as_verdict q = cc in ap (λ r. Err (Refused r)) (one_refusal r q v)
+one_outcome (Err (Refused r)) (Ok n) x y e = cc
+one_outcome (Ok m) (Err TooLong) x y e = cc
+one_outcome (Ok m) (Err (Refused q)) x y e = cc
+one_outcome (Ok m) (Ok n) x y e = let f : as_mending m x ≡ as_mending n y = cc in ap Ok (one_mending m n x y f)
 
 -- ---- no two answers of a function fit its promise
 

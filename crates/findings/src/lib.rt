@@ -4,73 +4,66 @@
 ghost use Rattle.std.specs.Prelude.{◌≡◌};
 ghost use Rattle.model.specs.Programs as model;
 ghost use Rattle.scan.specs.Answers.{as_scan};
+ghost use Rattle.findings.specs.declared.Rejected.TheVariants.{Refused};
 ghost use Rattle.findings.specs.Answers.{as_found, as_outcome, left_within, uncorrectable_in};
 
+use ecc::EccReport;
 use error::Refusal;
-use mending::{MendResult, Mending};
-use scan::ScanResult;
-use view::ParseResult;
+use mending::Mending;
 
-#[derive(Clone, Copy)]
+// Why an image is not looked at, or not mended.
+#[derive(Clone, Copy, Debug, PartialEq, Eq)]
+pub enum Rejected {
+    TooLong,
+    Refused(Refusal),
+}
+
+impl From<Refusal> for Rejected {
+    ghost from_gives = { λ r e. e ≡ Refused r };
+
+    fn from(refusal: Refusal) -> Rejected {
+        Rejected::Refused(refusal)
+    }
+}
+
+#[derive(Clone, Copy, Debug, PartialEq, Eq)]
 pub struct Findings {
     pub regions: u16,
     pub needs_scrub: bool,
-    pub report: ScanResult,
+    pub report: Option<EccReport>,
 }
 
-#[derive(Clone, Copy)]
-pub enum Found {
-    TooLong,
-    Refused(Refusal),
-    Image(Findings),
-}
-
-pub fn look(image: &[u8], limit: usize) -> Found
+pub fn look(image: &[u8], limit: usize) -> Result<Findings, Rejected>
     ensures { as_found result ≡ model.look limit image.now }
 {
     if image.len() > limit {
-        return Found::TooLong;
+        return Err(Rejected::TooLong);
     }
-    match view::parse(image) {
-        ParseResult::Refused(refusal) => Found::Refused(refusal),
-        ParseResult::Parsed(header) => {
-            let report = scan::verify_all(image, header);
-            Found::Image(Findings {
-                regions: header.region_count,
-                needs_scrub: header.needs_scrub(),
-                report,
-            })
-        }
-    }
-}
-
-#[derive(Clone, Copy)]
-pub enum Outcome {
-    TooLong,
-    Refused(Refusal),
-    Mended(Mending),
+    let header = view::parse(image)?;
+    Ok(Findings {
+        regions: header.region_count,
+        needs_scrub: header.needs_scrub(),
+        report: scan::verify_all(image, header),
+    })
 }
 
 // Mends an image in place. One that is too long, or refused, is left as it was.
-pub fn mend_within(image: &mut [u8], limit: usize) -> Outcome
+pub fn mend_within(image: &mut [u8], limit: usize) -> Result<Mending, Rejected>
     ensures is { as_outcome result image.new ≡ model.mend_within limit image.old }
     ensures leaves { image.new ≡ left_within (model.mend_within limit image.old) image.old }
 {
     if image.len() > limit {
-        return Outcome::TooLong;
+        return Err(Rejected::TooLong);
     }
-    match mending::mend(image) {
-        MendResult::Refused(refusal) => Outcome::Refused(refusal),
-        MendResult::Mended(mending) => Outcome::Mended(mending),
-    }
+    Ok(mending::mend(image)?)
 }
 
 // How many words of a report are uncorrectable; none where there is no report.
-pub fn uncorrectable_in(report: ScanResult) -> usize
+pub fn uncorrectable_in(report: Option<EccReport>) -> usize
     ensures { result ≡ uncorrectable_in (as_scan report) }
 {
     match report {
-        ScanResult::Nothing => 0,
-        ScanResult::Report(counts) => counts.uncorrectable,
+        Some(counts) => counts.uncorrectable,
+        None => 0,
     }
 }

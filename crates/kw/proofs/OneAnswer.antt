@@ -1,5 +1,4 @@
 -- No two answers fit one promise, nor two sets of numbers or bytes that are left. Assumes nothing.
-use mathlib.Core.Path.{refl}
 use Rattle.model.proofs.OneAnswer.{OneAnswerAnd, OneAnswerAndBoth, agree}
 use Rattle.kw.proofs.kw_parse.Reads as kw-parse
 use Rattle.kw.proofs.kw_scan.Reads as kw-scan

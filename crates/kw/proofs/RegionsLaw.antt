@@ -9,8 +9,8 @@ use Rattle.model.specs.Parse.{Parsed, parse}
 use Rattle.model.specs.Views.{entries_for, find_region, region_at}
 use Rattle.model.proofs.WalkLaw.{nth_past}
 use Rattle.view.specs.declared.header.Header.{Header}
-use Rattle.view.specs.declared.header.ParseResult.{ParseResult}
-use Rattle.view.specs.declared.header.ParseResult.TheVariants as parse-variants
+use Rattle.std.specs.Prelude.{Result, Ok}
+use Rattle.error.specs.declared.Refusal.{Refusal}
 use Rattle.view.specs.Answers.{as_parsed, found_as}
 use Rattle.view.proofs.AnswersLaw.{parsed_count}
 use Rattle.view.proofs.EntriesForLaw.{length_entries_for}
@@ -30,7 +30,7 @@ found_entry None = refl
 found_entry (Some e) = refl
 
 -- of an image whose parse r gave the header h
-module _ (x : List ℕ) (r : ParseResult) (e : as_parsed r ≡ parse x) (h : Header) (d : r ≡ parse-variants.Parsed h) where
+module _ (x : List ℕ) (r : Result Header Refusal) (e : as_parsed r ≡ parse x) (h : Header) (d : r ≡ Ok h) where
   pub place_told : (k : ℕ) → place_numbers (as_found (found_as (find_region h.region_count x k))) ≡ region_numbers (parse x) (find_region (count x) x k)
   place_told k =
       found_place (find_region h.region_count x k)

@@ -1,10 +1,9 @@
 -- What kw_region and kw_region_at give back in numbers. (FORMAT 2, 5, 6)
-use Rattle.std.specs.Prelude.{List, [], ◌∷◌, ℕ, ◌≤◌, length, Option, None, Some}
+use Rattle.std.specs.Prelude.{List, [], ◌∷◌, ℕ, ◌≤◌, length, Option, None, Some, option_map}
 use Rattle.model.specs.Layout.{Entry, start, end}
 use Rattle.model.specs.Parse.{Parsed, accepted, refused}
 use Rattle.layout.specs.Regions.{as_entry}
-use Rattle.view.specs.declared.regions.RegionAt.{RegionAt}
-use Rattle.view.specs.declared.regions.RegionAt.TheVariants.{Found, Nothing}
+use Rattle.layout.specs.declared.Region.{Region}
 
 -- ---- by kind
 
@@ -38,6 +37,5 @@ Inside x first past = (first ≤ past) × (past ≤ length x)
 -- ---- steps of code, for private contracts
 
 -- a region that was handed out, as an entry: no number above depends on the reserved field
-abbrev pub as_found : RegionAt → Option Entry
-as_found (Found r) = Some (as_entry r)
-as_found Nothing = None
+abbrev pub as_found : Option Region → Option Entry
+as_found = option_map as_entry

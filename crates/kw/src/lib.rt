@@ -17,24 +17,23 @@ ghost use Rattle.scan.specs.Answers.{as_scan};
 ghost use Rattle.kw.specs.Writes.{number_in, answer_in, write_number, write_answer};
 ghost use Rattle.kw.specs.Numbers.{refusal_number, parse_numbers, scan_numbers, report_numbers, mending_numbers, mend_number, mend_numbers};
 
+use ecc::EccReport;
 use error::Refusal;
-use mending::{MendResult, Mending};
+use mending::Mending;
 use plan::Row;
-use scan::ScanResult;
-use view::ParseResult;
 
 // {1, words, corrected, uncorrectable}, or zeros for nothing.
-fn report_numbers(scan: ScanResult) -> [u64; 4]
+fn report_numbers(scan: Option<EccReport>) -> [u64; 4]
     ensures { result ≡ report_numbers (as_scan scan) }
 {
     match scan {
-        ScanResult::Report(r) => [
+        Some(r) => [
             1,
             r.words as u64,
             r.corrected as u64,
             r.uncorrectable as u64,
         ],
-        ScanResult::Nothing => [0, 0, 0, 0],
+        None => [0, 0, 0, 0],
     }
 }
 
@@ -45,11 +44,11 @@ pub extern "C" fn kw_parse(image: &[u8], answer: &mut [u64; 2]) -> u32
     ensures answers { answer.new ≡ parse_numbers (parse image.now) }
 {
     match view::parse(image) {
-        ParseResult::Parsed(h) => {
+        Ok(h) => {
             *answer = [h.region_count as u64, h.needs_scrub() as u64];
             0
         }
-        ParseResult::Refused(r) => {
+        Err(r) => {
             *answer = [r.detail(), 0];
             r.number()
         }
@@ -63,11 +62,11 @@ pub extern "C" fn kw_scan(image: &[u8], answer: &mut [u64; 4]) -> u32
     ensures answers { answer.new ≡ scan_numbers (parse image.now) (scan image.now) }
 {
     match view::parse(image) {
-        ParseResult::Parsed(h) => {
+        Ok(h) => {
             *answer = report_numbers(scan::verify_all(image, h));
             0
         }
-        ParseResult::Refused(r) => {
+        Err(r) => {
             *answer = [r.detail(), 0, 0, 0];
             r.number()
         }
@@ -104,11 +103,11 @@ pub extern "C" fn kw_mend(image: &mut [u8], answer: &mut [u64; 6]) -> u32
     ensures leaves { image.new ≡ left_by (mend image.old) image.old }
 {
     match mending::mend(image) {
-        MendResult::Mended(m) => {
+        Ok(m) => {
             *answer = mending_numbers(m);
             0
         }
-        MendResult::Refused(r) => {
+        Err(r) => {
             *answer = [r.detail(), 0, 0, 0, 0, 0];
             r.number()
         }

@@ -6,8 +6,7 @@ use Rattle.model.specs.Layout.{Entry}
 use Rattle.model.specs.Parse.{Parsed, accepted, refused}
 use Rattle.model.specs.Views.{Range, Span, span, no_span}
 use Rattle.model.specs.Scan.{Report}
-use Rattle.view.specs.declared.regions.RegionAt.{RegionAt}
-use Rattle.view.specs.declared.regions.RegionAt.TheVariants.{Found, Nothing}
+use Rattle.layout.specs.declared.Region.{Region}
 
 -- 0, the count and the two marks; or a refusal's number and detail
 abbrev pub parsed_numbers : Parsed → List ℕ
@@ -20,9 +19,9 @@ entry_numbers (Some e) = 1 ∷ e.kind ∷ e.flags ∷ e.offset ∷ e.words ∷ e
 entry_numbers None = 0 ∷ 0 ∷ 0 ∷ 0 ∷ 0 ∷ 0 ∷ []
 
 -- 1 and the fields of the region that a lookup hands out, or zeros
-abbrev pub found_numbers : RegionAt → List ℕ
-found_numbers (Found r) = 1 ∷ r.kind ∷ r.flags ∷ r.word_offset ∷ r.word_length ∷ r.covers ∷ []
-found_numbers Nothing = 0 ∷ 0 ∷ 0 ∷ 0 ∷ 0 ∷ 0 ∷ []
+abbrev pub found_numbers : Option Region → List ℕ
+found_numbers (Some r) = 1 ∷ r.kind ∷ r.flags ∷ r.word_offset ∷ r.word_length ∷ r.covers ∷ []
+found_numbers None = 0 ∷ 0 ∷ 0 ∷ 0 ∷ 0 ∷ 0 ∷ []
 
 -- an entry of these fields; no answer depends on the reserved one
 abbrev pub entry_with : ℕ → ℕ → ℕ → ℕ → ℕ → Entry

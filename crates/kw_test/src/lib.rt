@@ -12,9 +12,9 @@ ghost use Rattle.model.specs.Scan.{slice_word, slice_scan};
 ghost use Rattle.ecc.specs.Answers.{as_word};
 ghost use Rattle.kw_test.specs.Numbers.{as_numbers, region_numbers, outcome_numbers, word_numbers, count_numbers, answers_numbers};
 
-use ecc::{EccReport, PlaneWord, WordStatus};
-use layout::{Region, Size};
-use scalar::{U8At, U16At, U32At, U64At};
+use ecc::{EccReport, WordStatus};
+use layout::Region;
+use scalar::{Number, number_at};
 
 mod parts;
 mod reader;
@@ -26,9 +26,9 @@ mod values;
 pub extern "C" fn kwt_u8_at(b: &[u8], at: usize, answer: &mut [u64; 2])
     ensures { answer.new ≡ as_numbers (read_in 1 b.now at) }
 {
-    match scalar::u8_at(b, at) {
-        U8At::Value(v) => *answer = [1, v as u64],
-        U8At::Nothing => *answer = [0, 0],
+    match number_at::<u8, 1>(b, at) {
+        Some(v) => *answer = [1, v as u64],
+        None => *answer = [0, 0],
     }
 }
 
@@ -36,9 +36,9 @@ pub extern "C" fn kwt_u8_at(b: &[u8], at: usize, answer: &mut [u64; 2])
 pub extern "C" fn kwt_u16_at(b: &[u8], at: usize, answer: &mut [u64; 2])
     ensures { answer.new ≡ as_numbers (read_in 2 b.now at) }
 {
-    match scalar::u16_at(b, at) {
-        U16At::Value(v) => *answer = [1, v as u64],
-        U16At::Nothing => *answer = [0, 0],
+    match number_at::<u16, 2>(b, at) {
+        Some(v) => *answer = [1, v as u64],
+        None => *answer = [0, 0],
     }
 }
 
@@ -46,9 +46,9 @@ pub extern "C" fn kwt_u16_at(b: &[u8], at: usize, answer: &mut [u64; 2])
 pub extern "C" fn kwt_u32_at(b: &[u8], at: usize, answer: &mut [u64; 2])
     ensures { answer.new ≡ as_numbers (read_in 4 b.now at) }
 {
-    match scalar::u32_at(b, at) {
-        U32At::Value(v) => *answer = [1, v as u64],
-        U32At::Nothing => *answer = [0, 0],
+    match number_at::<u32, 4>(b, at) {
+        Some(v) => *answer = [1, v as u64],
+        None => *answer = [0, 0],
     }
 }
 
@@ -56,9 +56,9 @@ pub extern "C" fn kwt_u32_at(b: &[u8], at: usize, answer: &mut [u64; 2])
 pub extern "C" fn kwt_u64_at(b: &[u8], at: usize, answer: &mut [u64; 2])
     ensures { answer.new ≡ as_numbers (read_in 8 b.now at) }
 {
-    match scalar::u64_at(b, at) {
-        U64At::Value(v) => *answer = [1, v as u64],
-        U64At::Nothing => *answer = [0, 0],
+    match number_at::<u64, 8>(b, at) {
+        Some(v) => *answer = [1, v as u64],
+        None => *answer = [0, 0],
     }
 }
 
@@ -66,28 +66,28 @@ pub extern "C" fn kwt_u64_at(b: &[u8], at: usize, answer: &mut [u64; 2])
 pub extern "C" fn kwt_u8_bytes(v: u8, out: &mut [u8; 1])
     ensures { out.new ≡ le_bytes 1 v }
 {
-    *out = scalar::u8_bytes(v);
+    *out = v.to_bytes();
 }
 
 #[unsafe(no_mangle)]
 pub extern "C" fn kwt_u16_bytes(v: u16, out: &mut [u8; 2])
     ensures { out.new ≡ le_bytes 2 v }
 {
-    *out = scalar::u16_bytes(v);
+    *out = v.to_bytes();
 }
 
 #[unsafe(no_mangle)]
 pub extern "C" fn kwt_u32_bytes(v: u32, out: &mut [u8; 4])
     ensures { out.new ≡ le_bytes 4 v }
 {
-    *out = scalar::u32_bytes(v);
+    *out = v.to_bytes();
 }
 
 #[unsafe(no_mangle)]
 pub extern "C" fn kwt_u64_bytes(v: u64, out: &mut [u8; 8])
     ensures { out.new ≡ le_bytes 8 v }
 {
-    *out = scalar::u64_bytes(v);
+    *out = v.to_bytes();
 }
 
 #[unsafe(no_mangle)]
@@ -109,8 +109,8 @@ pub extern "C" fn kwt_words_for(bytes: usize, answer: &mut [u64; 2])
     ensures { answer.new ≡ as_numbers (words_for bytes) }
 {
     match layout::words_for(bytes) {
-        Size::Of(n) => *answer = [1, n as u64],
-        Size::Nothing => *answer = [0, 0],
+        Some(n) => *answer = [1, n as u64],
+        None => *answer = [0, 0],
     }
 }
 
@@ -119,8 +119,8 @@ pub extern "C" fn kwt_header_bytes(count: usize, answer: &mut [u64; 2])
     ensures { answer.new ≡ as_numbers (header_bytes count) }
 {
     match layout::header_bytes(count) {
-        Size::Of(n) => *answer = [1, n as u64],
-        Size::Nothing => *answer = [0, 0],
+        Some(n) => *answer = [1, n as u64],
+        None => *answer = [0, 0],
     }
 }
 
@@ -178,16 +178,16 @@ pub extern "C" fn kwt_decode_word(data: u64, check: u8, answer: &mut [u64; 2])
     }
 }
 
-fn word_numbers(word: PlaneWord) -> [u64; 3]
+fn word_numbers(word: Option<WordStatus>) -> [u64; 3]
     ensures { result ≡ word_numbers (as_word word) }
 {
     match word {
-        PlaneWord::Word(s) => match s {
+        Some(s) => match s {
             WordStatus::Clean(w) => [1, 0, w],
             WordStatus::Corrected(w) => [1, 1, w],
             WordStatus::Uncorrectable => [1, 2, 0],
         },
-        PlaneWord::Nothing => [0, 0, 0],
+        None => [0, 0, 0],
     }
 }
 

@@ -8,15 +8,16 @@ ghost use Rattle.tables.specs.Answers.{as_span};
 ghost use Rattle.kw_test.specs.Reader.{span_numbers, place_numbers, part_numbers, entry_at};
 
 use super::reader::place_numbers;
+use error::Refusal;
 use layout::Region;
-use tables::PartSpan;
+use std::ops::Range;
 
-fn span_numbers(span: PartSpan) -> [u64; 3]
+fn span_numbers(span: Result<Range<usize>, Refusal>) -> [u64; 3]
     ensures { result ≡ span_numbers (as_span span) }
 {
     match span {
-        PartSpan::Bytes { start, end } => [0, start as u64, end as u64],
-        PartSpan::Refused(r) => [r.number() as u64, r.detail(), 0],
+        Ok(part) => [0, part.start as u64, part.end as u64],
+        Err(r) => [r.number() as u64, r.detail(), 0],
     }
 }
 

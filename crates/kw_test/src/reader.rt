@@ -6,8 +6,8 @@ ghost use Rattle.tables.specs.Answers.{as_place};
 ghost use Rattle.kw_test.specs.Reader.{parsed_numbers, found_numbers, entry_numbers, place_numbers};
 
 use layout::Region;
-use tables::Place;
-use view::{Header, ParseResult, RegionAt};
+use std::ops::Range;
+use view::Header;
 
 pub(crate) fn header_of(count: u16) -> Header
     ensures { result.region_count ≡ count }
@@ -19,11 +19,11 @@ pub(crate) fn header_of(count: u16) -> Header
     }
 }
 
-fn found_numbers(found: RegionAt) -> [u64; 6]
+fn found_numbers(found: Option<Region>) -> [u64; 6]
     ensures { result ≡ found_numbers found }
 {
     match found {
-        RegionAt::Found(r) => [
+        Some(r) => [
             1,
             r.kind as u64,
             r.flags as u64,
@@ -31,16 +31,16 @@ fn found_numbers(found: RegionAt) -> [u64; 6]
             r.word_length as u64,
             r.covers as u64,
         ],
-        RegionAt::Nothing => [0, 0, 0, 0, 0, 0],
+        None => [0, 0, 0, 0, 0, 0],
     }
 }
 
-pub(crate) fn place_numbers(place: Place) -> [u64; 3]
+pub(crate) fn place_numbers(place: Option<Range<usize>>) -> [u64; 3]
     ensures { result ≡ place_numbers (as_place place) }
 {
     match place {
-        Place::At { start, end } => [1, start as u64, end as u64],
-        Place::Nothing => [0, 0, 0],
+        Some(place) => [1, place.start as u64, place.end as u64],
+        None => [0, 0, 0],
     }
 }
 
@@ -50,7 +50,7 @@ pub extern "C" fn kwt_parse(bytes: &[u8], answer: &mut [u64; 4])
     ensures { answer.new ≡ parsed_numbers (model.parse bytes.now) }
 {
     match view::parse(bytes) {
-        ParseResult::Parsed(h) => {
+        Ok(h) => {
             *answer = [
                 0,
                 h.region_count as u64,
@@ -58,7 +58,7 @@ pub extern "C" fn kwt_parse(bytes: &[u8], answer: &mut [u64; 4])
                 h.directory_disagreed as u64,
             ]
         }
-        ParseResult::Refused(r) => *answer = [r.number() as u64, r.detail(), 0, 0],
+        Err(r) => *answer = [r.number() as u64, r.detail(), 0, 0],
     }
 }
 

@@ -6,20 +6,20 @@ ghost use Rattle.scan.specs.Answers.{as_scan};
 ghost use Rattle.kw_test.specs.Reader.{scan_answer, entry_with};
 
 use super::reader::header_of;
+use ecc::EccReport;
 use layout::Region;
-use scan::ScanResult;
 
-fn scan_numbers(scan: ScanResult) -> [u64; 4]
+fn scan_numbers(scan: Option<EccReport>) -> [u64; 4]
     ensures { result ≡ scan_answer (as_scan scan) }
 {
     match scan {
-        ScanResult::Report(r) => [
+        Some(r) => [
             1,
             r.words as u64,
             r.corrected as u64,
             r.uncorrectable as u64,
         ],
-        ScanResult::Nothing => [0, 0, 0, 0],
+        None => [0, 0, 0, 0],
     }
 }
 

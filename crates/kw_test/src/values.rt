@@ -13,8 +13,8 @@ use super::parts::part_numbers;
 use super::reader::place_numbers;
 use super::word_numbers;
 use borrowed::{EccPlane, Pool, RecordTable};
-use ecc::{EccReport, PlaneWord};
-use tables::Place;
+use ecc::{EccReport, WordStatus};
+use std::ops::Range;
 
 fn size_answer(len: usize, empty: bool, stride: usize) -> [u64; 3]
     ensures { result ≡ len ∷ num empty ∷ stride ∷ [] }
@@ -29,7 +29,7 @@ fn table_size(bytes: &[u8], stride: usize) -> [u64; 3]
     size_answer(table.len(), table.is_empty(), table.stride())
 }
 
-fn part_answer(place: Place, part: &[u8]) -> [u64; 5]
+fn part_answer(place: Option<Range<usize>>, part: &[u8]) -> [u64; 5]
     ensures { result ≡ part_answer (as_place place) part.now }
 {
     let p = place_numbers(place);
@@ -52,7 +52,7 @@ fn table_forward(bytes: &[u8], stride: usize, at: usize, first: u32, count: u32)
     table.range_is_forward(at, first, count)
 }
 
-fn pool_answer<'a>(whole: &'a [u8], place: Place, part: &'a [u8]) -> [u64; 7]
+fn pool_answer<'a>(whole: &'a [u8], place: Option<Range<usize>>, part: &'a [u8]) -> [u64; 7]
     ensures { result ≡ part_numbers whole.now ++ part_answer (as_place place) part.now }
 {
     let w = part_numbers(whole);
@@ -71,7 +71,7 @@ fn pool_part(bytes: &[u8], offset: u32, len: u32) -> [u64; 7]
     )
 }
 
-fn plane_answer(parity: &[u8], word: PlaneWord, report: EccReport) -> [u64; 8]
+fn plane_answer(parity: &[u8], word: Option<WordStatus>, report: EccReport) -> [u64; 8]
     ensures { result ≡ plane_answer parity.now (as_word word) (as_report report) }
 {
     let p = part_numbers(parity);

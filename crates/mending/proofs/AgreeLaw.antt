@@ -16,8 +16,8 @@ use Rattle.model.specs.Parse.{accepted, parsed_as, parse_verdict, header_of}
 use Rattle.model.proofs.BytesLaw.{length_thrice}
 use Rattle.model.proofs.LayoutLaw.{length_prologue, length_directory_bytes}
 use Rattle.view.specs.declared.header.Header.{Header}
-use Rattle.view.specs.declared.header.ParseResult.{ParseResult}
-use Rattle.view.specs.declared.header.ParseResult.TheVariants.{Parsed}
+use Rattle.std.specs.Prelude.{Result, Ok}
+use Rattle.error.specs.declared.Refusal.{Refusal}
 use Rattle.view.specs.Answers.{as_parsed}
 use Rattle.lemmas.specs.Steps.{mend_header}
 use Rattle.lemmas.proofs.VerdictLaw.{or_left, or_right}
@@ -50,7 +50,7 @@ as_header_lem : (v : Verdict) (h g : model.Header) → accepted h ≡ parsed_as 
 as_header_lem fine h g e = cc
 as_header_lem (refuse n d) h g e = let z : ◌≡◌ {A = ℕ} 0 1 = cc in absurd (omega arith)
 
-pub parsed_wanted : (x : List ℕ) (r : ParseResult) → as_parsed r ≡ model.parse x → (h : Header) → r ≡ Parsed h
+pub parsed_wanted : (x : List ℕ) (r : Result Header Refusal) → as_parsed r ≡ model.parse x → (h : Header) → r ≡ Ok h
     → h.prologue_disagreed || h.directory_disagreed ≡ scrub_wanted x
 unfolding model.parse header_of scrub_wanted
 parsed_wanted x r e h f =

@@ -1,6 +1,6 @@
 -- The word half, region by region, and mend's answer. Assumes nothing.
 use mathlib.Core.Path.{◌≡◌, refl, sym, ap, ap₂, ◌∙◌, subst}
-use mathlib.Core.Bool.{Bool, true, ◌||◌, cond}
+use mathlib.Core.Bool.{Bool, true, cond}
 use mathlib.Core.List.{List, [], ◌∷◌, ◌++◌}
 use Prim.Native.Nat.{ℕ, suc, ◌+◌, ◌*◌, ◌≤◌}
 use native.Mathlib.Omega.{arith}
@@ -11,13 +11,12 @@ use Rattle.model.specs.Bytes.{Bytes}
 use Rattle.model.specs.Refusals.{fine, refuse}
 use Rattle.model.specs.Layout.{Entry, count, header_length, directory, directory_of}
 use Rattle.model.specs.Views.{nth, entries_for, region_at}
-use Rattle.model.specs.Scan.{Visit, visits_over, visits, Codeword, Among, codewords_in, codewords, total, classes_at, report, scan}
+use Rattle.model.specs.Scan.{Visit, visits_over, visits, Codeword, Among, codewords_in, codewords, total, is_corrected, classes_at, Report, report, scan_of, scan}
 use Rattle.model.specs.Scrub.{visit_at}
 use Rattle.model.specs.Mend as model
 use Rattle.model.specs.Mend.{mend_verdict, fix_all, mend_bytes, changed, mend}
 use Rattle.model.proofs.LayoutLaw.{length_directory_of}
-use Rattle.model.proofs.ScanLaw.{any_append, codewords_append, scan_all, visits_append, visits_to}
-use Rattle.model.specs.Steps.{any_of}
+use Rattle.model.proofs.ScanLaw.{codewords_append, scan_all, visits_append, visits_to}
 use Rattle.lemmas.specs.Steps.{mend_header, mend_words}
 use Rattle.lemmas.proofs.HeaderLaw.{SameHeader, header_kept, same_directory, same_visits}
 use Rattle.lemmas.proofs.HeaderHalf.{header_keeps, header_verdict_lem, header_size, header_then_words, header_codewords, header_word, header_check}
@@ -26,10 +25,11 @@ use Rattle.lemmas.proofs.Fold.{AllApart, nil, cons, all_length, all_other, fix_a
 use Rattle.lemmas.proofs.Apart.{accepted, apart, past}
 use Rattle.lemmas.proofs.StoredLaw.{stored_count}
 use Rattle.mending.proofs.VoteLaw.{header_part}
-use Rattle.scan.specs.Tally.{Totals, no_totals, tallied, marked, with_classes, reported_by}
-use Rattle.scan.proofs.TallyLaw.{tally_append}
+use Rattle.std.specs.Prelude.{Option, None}
+use Rattle.scan.specs.Tally.{reported, together, or_zeros, Bounded}
+use Rattle.scan.proofs.TallyLaw.{together_reported, bounded_given}
+use Rattle.correcting.proofs.CorrectLaw.{none_there, none_met}
 use Rattle.mending.proofs.MetLaw.{met_append, met_apart}
-use Rattle.mending.specs.Scanned.{scanned}
 use Rattle.correcting.specs.Correct.{met}
 use Rattle.scan.specs.Runs.{visits_at}
 
@@ -54,16 +54,20 @@ unfoldable pub fixed_to : List ℕ → ℕ → List ℕ
 fixed_to x i = fix_all (codewords_in (first_visits x i)) x
 
 -- what is counted by then
-unfoldable pub tallied_to : List ℕ → ℕ → Totals
-tallied_to x i = tallied (any_of (first_visits x i)) (met true x (codewords_in (first_visits x i)))
+unfoldable pub reported_to : List ℕ → ℕ → Option Report
+reported_to x i = reported (first_visits x i) (met true x (codewords_in (first_visits x i)))
 
 pub none_fixed : (x : List ℕ) → fixed_to x 0 ≡ x
 unfolding fixed_to fix_all visits_over codewords_in
 none_fixed x = refl
 
-pub none_tallied : (x : List ℕ) → tallied_to x 0 ≡ no_totals
-unfolding tallied_to report met visits_over codewords_in total
-none_tallied x = refl
+pub none_reported : (x : List ℕ) → reported_to x 0 ≡ None
+unfolding reported_to visits_over
+none_reported x = refl
+
+pub reported_bounded : (x : List ℕ) (i : ℕ) → Bounded (or_zeros (reported_to x i))
+unfolding reported_to
+reported_bounded x i = bounded_given _ (met true x (codewords_in (first_visits x i)))
 
 module _ (x : List ℕ) (v : mend_verdict x ≡ fine) (b : Bytes x) where
   first : ℕ → List Codeword
@@ -128,21 +132,24 @@ module _ (x : List ℕ) (v : mend_verdict x ≡ fine) (b : Bytes x) where
       ∙ sym (ap (λ (ps : List Codeword). fix_all ps x) (words_next i) ∙ fix_all_append (first i) (codewords_in (next_visit i)) x)
 
   -- and is counted as a scan of x counts it
-  pub tally_next : (i : ℕ) (y : List ℕ) (c : Totals) → y ≡ fixed_to x i → c ≡ tallied_to x i
-      → with_classes (marked c (any_of (visits_at (count x) y i))) (met true y (codewords_in (visits_at (count x) y i))) ≡ tallied_to x (suc i)
-  unfolding tallied_to fixed_to first
-  tally_next i y c e f =
+  pub report_next : (i : ℕ) (y : List ℕ) (o : Option Report) → y ≡ fixed_to x i → o ≡ reported_to x i
+      → together o (reported (visits_at (count x) y i) (met true y (codewords_in (visits_at (count x) y i)))) ≡ reported_to x (suc i)
+  unfolding reported_to fixed_to first
+  report_next i y o e f =
       let vs = next_visit i in
-      ap (λ (ws : List Visit). with_classes (marked c (any_of ws)) (met true y (codewords_in ws))) (fixed_visit i y e)
-      ∙ ap₂ (λ (t : Totals) (z : List ℕ). with_classes (marked t (any_of vs)) (met true z (codewords_in vs))) f e
-      ∙ tally_append (any_of (first_visits x i) || any_of vs) (met true x (first i)) (met true (fix_all (first i) x) (codewords_in vs))
-      ∙ sym (ap₂ tallied (ap any_of (first_next i) ∙ any_append (first_visits x i) vs) (ap (met true x) (words_next i) ∙ met_append x (first i) (codewords_in vs)))
+      let qs = codewords_in vs in
+      let z = fix_all (first i) x in
+      ap (λ (ws : List Visit). together o (reported ws (met true y (codewords_in ws)))) (fixed_visit i y e)
+      ∙ ap₂ (λ (p : Option Report) (w : List ℕ). together p (reported vs (met true w qs))) f e
+      ∙ together_reported (first_visits x i) vs (met true x (first i)) (met true z qs)
+      (λ g. none_met true x (first i) (none_there (first_visits x i) g).1) (λ g. none_met true z qs (none_there vs g).1)
+      ∙ sym (ap₂ reported (first_next i) (ap (met true x) (words_next i) ∙ met_append x (first i) qs))
 
-  pub tally_all : (i : ℕ) → count x ≤ i → tallied_to x i ≡ scanned x
-  unfolding tallied_to scanned codewords
-  tally_all i h =
-      ap (λ (vs : List Visit). tallied (any_of vs) (met true x (codewords_in vs))) (all_visits x i h)
-      ∙ ap (tallied (any_of (visits x))) (met_apart (length x) x b refl (apart x v))
+  pub report_all : (i : ℕ) → count x ≤ i → reported_to x i ≡ scan x
+  unfolding reported_to codewords
+  report_all i h =
+      ap (λ (vs : List Visit). reported vs (met true x (codewords_in vs))) (all_visits x i h)
+      ∙ ap (reported (visits x)) (met_apart (length x) x b refl (apart x v)) ∙ sym (scan_all x)
 
 pub all_fixed : (x : List ℕ) (i : ℕ) → count x ≤ i → fixed_to x i ≡ mend_words x
 unfolding fixed_to mend_words codewords
@@ -150,9 +157,14 @@ all_fixed x i h = ap (λ (vs : List Visit). fix_all (codewords_in vs) x) (all_vi
 
 -- ---- of an image that mend accepts
 
-pub scanned_report : (x : List ℕ) → reported_by (scanned x) ≡ scan x
-unfolding scanned report
-scanned_report x = sym (scan_all x)
+-- the corrected words of a scan
+scan_corrected : (x : List ℕ) → (or_zeros (scan x)).corrected ≡ total is_corrected (classes_at x (codewords x))
+unfolding scan codewords scan_of codewords_in classes_at total report
+scan_corrected x = go (visits x)
+  where
+    go : (vs : List Visit) → (or_zeros (scan_of x vs)).corrected ≡ total is_corrected (classes_at x (codewords_in vs))
+    go [] = refl
+    go (v ∷ vs) = refl
 
 module _ (x : List ℕ) (v : mend_verdict x ≡ fine) (b : Bytes x) where
   pub mended_all : mend_words (mend_header x) ≡ mend_bytes x
@@ -164,17 +176,17 @@ module _ (x : List ℕ) (v : mend_verdict x ≡ fine) (b : Bytes x) where
       (e ∙ sym (header_keeps x v b).count≡ ∙ ap count (sym f), ap mend_verdict f ∙ header_verdict_lem x v b)
 
   -- it moves no examined word
-  pub header_scanned : scanned (mend_header x) ≡ scanned x
-  unfolding scanned
+  pub header_scanned : scan (mend_header x) ≡ scan x
   header_scanned =
-      ap₂ tallied (ap any_of (same_visits (mend_header x) x (header_size x v b) (header_keeps x v b)))
+      scan_all (mend_header x)
+      ∙ ap₂ reported (same_visits (mend_header x) x (header_size x v b) (header_keeps x v b))
       (ap (classes_at (mend_header x)) (header_codewords x v b)
       ∙ classes_ext x (mend_header x) (codewords x) (λ q c m. (header_word x v b q c m, header_check x v b q c m)))
+      ∙ sym (scan_all x)
 
-  pub all_stored : (h w : ℕ) → h ≡ changed x (mend_header x) → w ≡ (scanned x).report.corrected → h + w ≡ changed x (mend_bytes x)
-  unfolding scanned report
+  pub all_stored : (h w : ℕ) → h ≡ changed x (mend_header x) → w ≡ (or_zeros (scan x)).corrected → h + w ≡ changed x (mend_bytes x)
   all_stored h w e f =
-      ap₂ (λ (m n : ℕ). m + n) (e ∙ header_part x (accepted x v).long) f ∙ sym (stored_count x v b)
+      ap₂ (λ (m n : ℕ). m + n) (e ∙ header_part x (accepted x v).long) (f ∙ scan_corrected x) ∙ sym (stored_count x v b)
 
 -- ---- the verdict
 

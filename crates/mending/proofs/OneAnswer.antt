@@ -8,8 +8,8 @@ use Rattle.error.proofs.OneAnswer.{one_refusal}
 use Rattle.scan.specs.Answers.{as_scan}
 use Rattle.scan.proofs.OneAnswer.{one_scan}
 use Rattle.mending.specs.declared.Mending.{Mending}
-use Rattle.mending.specs.declared.MendResult.{MendResult}
-use Rattle.mending.specs.declared.MendResult.TheVariants.{Mended, Refused}
+use Rattle.std.specs.Prelude.{Result, Ok, Err}
+use Rattle.error.specs.declared.Refusal.{Refusal}
 use Rattle.mending.specs.Answers.{as_mending, as_mended}
 use Rattle.mending.proofs.mend.Reads as mend
 
@@ -21,11 +21,11 @@ one_mending a b x y e =
     let w : a.whole ≡ b.whole = cc in
     rw (r, s, w) refl
 
-pub one_mend : (a b : MendResult) (x y : List ℕ) → as_mended a x ≡ as_mended b y → a ≡ b
-one_mend (Mended m) (Mended n) x y e = ap Mended (one_mending m n x y e)
-one_mend (Mended m) (Refused r) x y e = cc
-one_mend (Refused r) (Mended n) x y e = cc
-one_mend (Refused r) (Refused q) x y e = let v : as_verdict r ≡ as_verdict q = cc in ap Refused (one_refusal r q v)
+pub one_mend : (a b : Result Mending Refusal) (x y : List ℕ) → as_mended a x ≡ as_mended b y → a ≡ b
+one_mend (Ok m) (Ok n) x y e = ap Ok (one_mending m n x y e)
+one_mend (Ok m) (Err r) x y e = cc
+one_mend (Err r) (Ok n) x y e = cc
+one_mend (Err r) (Err q) x y e = let v : as_verdict r ≡ as_verdict q = cc in ap Err (one_refusal r q v)
 
 -- ---- no two answers of a function fit its promise
 

@@ -10,34 +10,28 @@ ghost use Rattle.scan.specs.Answers.{as_scan};
 ghost use Rattle.mending.specs.Answers.{as_mended, as_mending, left_by};
 ghost use Rattle.mending.specs.Mendable.{Mendable, Tells};
 
+use ecc::EccReport;
 use error::Refusal;
 use header::mend_header;
-use overlap::{Placement, check_placement};
-use scan::{ScanResult, scan_result};
+use overlap::check_placement;
 use view::Header;
 use words::mend_words;
 
 // What was found before anything was written, how many bytes changed, and whether no word is left uncorrectable.
-#[derive(Clone, Copy)]
+#[derive(Clone, Copy, Debug, PartialEq, Eq)]
 pub struct Mending {
-    pub report: ScanResult,
+    pub report: Option<EccReport>,
     pub stored: usize,
     pub whole: bool,
 }
 
-#[derive(Clone, Copy)]
-pub enum MendResult {
-    Mended(Mending),
-    Refused(Refusal),
-}
-
 // Whether a report says that no word is uncorrectable; no report does not say so.
-fn is_whole(report: ScanResult) -> bool
+fn is_whole(report: Option<EccReport>) -> bool
     ensures { result ≡ model.none_uncorrectable (as_scan report) }
 {
     match report {
-        ScanResult::Report(counts) => counts.uncorrectable == 0,
-        ScanResult::Nothing => false,
+        Some(counts) => counts.uncorrectable == 0,
+        None => false,
     }
 }
 
@@ -48,29 +42,20 @@ fn mend_apart(bytes: &mut [u8], header: Header) -> Mending
     ensures leaves { bytes.new ≡ model.mend_bytes bytes.old }
 {
     let in_header = mend_header(bytes, header);
-    let tally = mend_words(bytes, header);
-    let report = scan_result(tally);
+    let report = mend_words(bytes, header);
     Mending {
         report,
-        stored: in_header + tally.report.corrected,
+        stored: in_header + report.unwrap_or_default().corrected,
         whole: is_whole(report),
     }
 }
 
 // Repairs what the header's votes and the parity decide, and refuses, with no byte written, where regions overlap.
 // The image has to be parsed afresh before it is loaded.
-pub fn mend(bytes: &mut [u8]) -> MendResult
+pub fn mend(bytes: &mut [u8]) -> Result<Mending, Refusal>
     ensures is { as_mended result bytes.new ≡ model.mend bytes.old }
     ensures leaves { bytes.new ≡ left_by (model.mend bytes.old) bytes.old }
 {
-    match check_placement(bytes) {
-        Placement::Refused(refusal) => MendResult::Refused(refusal),
-        Placement::OnHeader { index } => {
-            MendResult::Refused(Refusal::OverlappingRegions { index })
-        }
-        Placement::OnRegion { index, earlier: _ } => {
-            MendResult::Refused(Refusal::OverlappingRegions { index })
-        }
-        Placement::Apart(header) => MendResult::Mended(mend_apart(bytes, header)),
-    }
+    let header = check_placement(bytes)?;
+    Ok(mend_apart(bytes, header))
 }

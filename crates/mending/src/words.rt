@@ -1,29 +1,27 @@
 // The word half of mend: every corrected word is stored with its check byte, and nothing else moves. (FORMAT 10)
 ghost use Rattle.std.specs.Prelude.{◌≡◌};
+ghost use Rattle.model.specs.Scan.{scan};
 ghost use Rattle.lemmas.specs.Steps.{mend_words};
-ghost use Rattle.scan.specs.Tally.{as_totals};
+ghost use Rattle.scan.specs.Answers.{as_scan};
 ghost use Rattle.mending.specs.Mendable.{Mendable};
-ghost use Rattle.mending.specs.Scanned.{scanned};
 
 use correcting::correct_region;
-use ecc::{EMPTY_TABLE, fill_check_table};
-use scan::{Tally, empty_tally};
+use ecc::{CheckTable, EMPTY_TABLE, EccReport};
+use scan::together;
 use view::Header;
 
 // Mends every protected run, and counts what a scan would have counted: since regions lie apart, no repair moves a word that is met later.
-pub(crate) fn mend_words(bytes: &mut [u8], header: Header) -> Tally
+pub(crate) fn mend_words(bytes: &mut [u8], header: Header) -> Option<EccReport>
     requires { Mendable header bytes.old }
     ensures leaves { bytes.new ≡ mend_words bytes.old }
-    ensures tells { as_totals result ≡ scanned bytes.old }
+    ensures tells { as_scan result ≡ scan bytes.old }
 {
-    let n = header.region_count;
-    let mut table = EMPTY_TABLE;
-    fill_check_table(&mut table);
-    let mut tally = empty_tally();
-    let mut i: u16 = 0;
-    while i < n {
-        tally = correct_region(&table, bytes, header, i, true, tally);
-        i += 1;
+    let mut room = EMPTY_TABLE;
+    let table = CheckTable::new(&mut room);
+    let mut total = None;
+    for i in 0..header.region_count {
+        let found = correct_region(table, bytes, header, i, true);
+        total = together(total, found);
     }
-    tally
+    total
 }

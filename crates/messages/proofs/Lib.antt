@@ -1,2 +1,1 @@
-pub mod SaidLaw
 pub mod OneAnswer

@@ -5,11 +5,11 @@ use Rattle.sentences.specs.Sentences.{sentence}
 use Rattle.exit_status.specs.declared.Verdict.{Verdict}
 use Rattle.exit_status.specs.declared.Verdict.TheVariants as verdict
 
-unfoldable pub too_long_sentence : List ℕ
+abbrev pub too_long_sentence : List ℕ
 too_long_sentence = text "the image has more than 8388608 bytes (too-long)"
 
 -- what stands before the sentence
-unfoldable pub naming : List ℕ → List ℕ
+abbrev pub naming : List ℕ → List ℕ
 naming name = text "kw: " ++ (name ++ text ": ")
 
 abbrev pub complaint : List ℕ → Verdict → List ℕ
@@ -19,5 +19,5 @@ complaint name verdict.TooLong = lines ((naming name ++ too_long_sentence) ∷ [
 complaint name (verdict.Refused r) = lines ((naming name ++ sentence r) ∷ [])
 
 -- no name is longer than 4,096 bytes, and of one that were nothing is said
-unfoldable pub refusal_text : List ℕ → Verdict → List ℕ
+abbrev pub refusal_text : List ℕ → Verdict → List ℕ
 refusal_text name v = cond (ltb 4096 (length name)) [] (complaint name v)

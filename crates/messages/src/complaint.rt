@@ -1,4 +1,6 @@
 // The line in words on an image that is refused or too long. (FORMAT 14)
+#![tactic(auto, using(put::proofs::PutLaw::sets_append), unfolding(model::specs::Programs::text))]
+
 ghost use Rattle.std.specs.Prelude.{◌≡◌, [], ◌∷◌, ◌++◌, ◌+◌, ◌≤◌, length};
 ghost use Rattle.std.proofs.lemmas.List.Edits.{sets};
 ghost use Rattle.io.specs.Counts.{IsPrefixLen};
@@ -9,9 +11,8 @@ ghost use Rattle.messages.specs.Complaints.{too_long_sentence, naming, refusal_t
 
 use error::Refusal;
 use exit_status::Verdict;
+use paths::LONGEST_NAME;
 use put::put_bytes;
-
-const LONGEST_NAME: usize = 4096;
 
 pub(crate) fn put_name(out: &mut [u8], name: &[u8]) -> usize
     requires { length name.now + 6 ≤ length out.old }
@@ -23,14 +24,26 @@ pub(crate) fn put_name(out: &mut [u8], name: &[u8]) -> usize
     put_bytes(out, colon, b": ")
 }
 
+fn put_line(out: &mut [u8], name: &[u8], sentence: &[u8]) -> usize
+    requires { length name.now + length sentence.now + 7 ≤ length out.old }
+    ensures is { Put out.old 0 (lines ((naming name.now ++ sentence.now) ∷ [])) result out.new }
+    ensures few { result ≤ length name.now + length sentence.now + 7 }
+{
+    let at = put_name(out, name);
+    let end = put_bytes(out, at, sentence);
+    put_bytes(out, end, b"\n")
+}
+
 fn put_too_long(out: &mut [u8], name: &[u8]) -> usize
     requires { length name.now + 127 ≤ length out.old }
     ensures is { Put out.old 0 (lines ((naming name.now ++ too_long_sentence) ∷ [])) result out.new }
     ensures few { result ≤ length name.now + 127 }
 {
-    let at = put_name(out, name);
-    let end = put_bytes(out, at, b"the image has more than 8388608 bytes (too-long)");
-    put_bytes(out, end, b"\n")
+    put_line(
+        out,
+        name,
+        b"the image has more than 8388608 bytes (too-long)",
+    )
 }
 
 fn put_refused(out: &mut [u8], name: &[u8], refusal: Refusal) -> usize
@@ -40,9 +53,7 @@ fn put_refused(out: &mut [u8], name: &[u8], refusal: Refusal) -> usize
 {
     let mut words = [0u8; 128];
     let n = sentences::in_words(refusal, &mut words);
-    let at = put_name(out, name);
-    let end = put_bytes(out, at, &words[..n]);
-    put_bytes(out, end, b"\n")
+    put_line(out, name, &words[..n])
 }
 
 // The line on an image that is refused or too long, and nothing on any other.

@@ -164,7 +164,7 @@ unfolding scrub_words
 words_append [] qs s = refl
 words_append (p ∷ ps) qs s = words_append ps qs (scrub_word p s)
 
-words_visited : (ps : List Codeword) (s : State) → (scrub_words ps s).visited ≡ s.visited
+pub words_visited : (ps : List Codeword) (s : State) → (scrub_words ps s).visited ≡ s.visited
 unfolding scrub_words scrub_word
 words_visited [] s = refl
 words_visited (p ∷ ps) s = words_visited ps (scrub_word p s)

@@ -2,7 +2,7 @@
 use mathlib.Core.Path.{◌≡◌, refl, sym, ap, ap₂, ◌∙◌}
 use mathlib.Core.Bool.{Bool, true, false, ◌&&◌, cond}
 use mathlib.Core.List.{List, [], ◌∷◌, ◌++◌}
-use Rattle.std.specs.Prelude.{Option, None, Some}
+use Rattle.std.specs.Prelude.{Option, None, Some, Result, Ok, Err}
 use Prim.Native.Nat.{ℕ, zero, suc, ◌+◌, ◌*◌, ◌≤◌, ◌<◌}
 use native.Mathlib.Omega.{arith}
 use borrow.Author.Tests.{lt-ltb, le-ltb}
@@ -11,19 +11,17 @@ use lib.ListN.{length, take, drop, drop_of_length-le}
 use Rattle.model.specs.Layout.{Entry, header_length}
 use Rattle.model.specs.Views.{nth, entries_for, region_at}
 use Rattle.model.specs.Parse.{Header}
-use Rattle.model.specs.Mend.{meets, meets_from, in_header, Placement, placed_apart, over_header, over_region, placement_as, placement_from}
+use Rattle.model.specs.Mend.{meets, meets_from, in_header, Placement, placed_apart, placement_as, placement_from}
 use Rattle.layout.specs.declared.Region.{Region}
 use Rattle.layout.specs.Regions.{as_entry, region_of}
 use Rattle.model.proofs.WalkLaw.{nth_gone, nth_there}
 use Rattle.view.specs.Answers.{found_as}
-use Rattle.view.specs.declared.regions.RegionAt.{RegionAt}
-use Rattle.view.specs.declared.regions.RegionAt.TheVariants as is
 use Rattle.view.proofs.AnswersLaw.{found_some, found_none}
 use Rattle.view.proofs.EntriesForLaw.{length_entries_for}
 use Rattle.lemmas.proofs.VerdictLaw.{and_false}
-use Rattle.overlap.specs.declared.Overlap.{Overlap}
-use Rattle.overlap.specs.declared.Overlap.TheVariants as on
-use Rattle.overlap.specs.Answers.{overlap_as}
+use Rattle.overlap.specs.declared.Misplaced.{Misplaced}
+use Rattle.overlap.specs.declared.Misplaced.TheVariants.{OnHeader, OnRegion}
+use Rattle.overlap.specs.Answers.{as_placement, overlap_as}
 
 -- ---- two regions
 
@@ -64,15 +62,15 @@ unfolding in_header
 outside n e h = rw (le-ltb (8 * e.offset) (header_length n) h) (and_false (ltb 0 e.words) false refl)
 
 -- what it lies on, of those before it
-module _ (n : ℕ) (e : Entry) (es : List Entry) where
-  pub lies_empty : e.words ≡ 0 → on.Nothing ≡ overlap_as (in_header n e) (meets_from 0 e es)
+module _ (n : ℕ) (e : Entry) (es : List Entry) (i : ℕ) where
+  pub lies_empty : e.words ≡ 0 → Ok tt ≡ overlap_as i (in_header n e) (meets_from 0 e es)
   lies_empty h = rw (empty_outside n e h, empty_none 0 e es h)
 
-  pub lies_inside : 0 < e.words → 8 * e.offset < header_length n → on.Header ≡ overlap_as (in_header n e) (meets_from 0 e es)
+  pub lies_inside : 0 < e.words → 8 * e.offset < header_length n → Err (OnHeader i) ≡ overlap_as i (in_header n e) (meets_from 0 e es)
   lies_inside a b = rw (inside n e a b)
 
-  pub lies_behind : (o : Option ℕ) → header_length n ≤ 8 * e.offset → o ≡ meets_from 0 e es → overlap_as false o ≡ overlap_as (in_header n e) (meets_from 0 e es)
-  lies_behind o h g = ap₂ overlap_as (sym (outside n e h)) g
+  pub lies_behind : (o : Option ℕ) → header_length n ≤ 8 * e.offset → o ≡ meets_from 0 e es → overlap_as i false o ≡ overlap_as i (in_header n e) (meets_from 0 e es)
+  lies_behind o h g = ap₂ (overlap_as i) (sym (outside n e h)) g
 
 -- ---- the placement, entry by entry
 
@@ -95,28 +93,23 @@ unfolding meets_from meets
 same_from j e [] = refl
 same_from j e (k ∷ es) = ap (cond (meets e k) (Some j)) (same_from (suc j) e es)
 
-on_header_lem : (t : Bool) (o : Option ℕ) (i : ℕ) (p : Placement) → on.Header ≡ overlap_as t o → placement_as t o i p ≡ over_header i
-on_header_lem true o i p e = refl
-on_header_lem false (Some j) i p e = cc
-on_header_lem false None i p e = cc
+lies_on : (t : Bool) (o : Option ℕ) (i : ℕ) (p : Placement) (m : Misplaced) → Err m ≡ overlap_as i t o → placement_as t o i p ≡ as_placement (Err m)
+lies_on true o i p m e = let f : m ≡ OnHeader i = cc in ap (λ (k : Misplaced). as_placement (Err k)) (sym f)
+lies_on false (Some j) i p m e = let f : m ≡ OnRegion i j = cc in ap (λ (k : Misplaced). as_placement (Err k)) (sym f)
+lies_on false None i p m e = cc
 
-on_region : (t : Bool) (o : Option ℕ) (i j : ℕ) (p : Placement) → on.Region j ≡ overlap_as t o → placement_as t o i p ≡ over_region i j
-on_region true o i j p e = cc
-on_region false (Some k) i j p e = cc
-on_region false None i j p e = cc
-
-on_nothing : (t : Bool) (o : Option ℕ) (i : ℕ) (p : Placement) → on.Nothing ≡ overlap_as t o → placement_as t o i p ≡ p
-on_nothing true o i p e = cc
-on_nothing false (Some j) i p e = cc
-on_nothing false None i p e = refl
+lies_on_none : (t : Bool) (o : Option ℕ) (i : ℕ) (p : Placement) → Ok tt ≡ overlap_as i t o → placement_as t o i p ≡ p
+lies_on_none true o i p e = cc
+lies_on_none false (Some j) i p e = cc
+lies_on_none false None i p e = refl
 
 -- at entry i of an image with a header h: r is what is found there
-module _ (h : Header) (x : List ℕ) (i : ℕ) (r : RegionAt) (f : r ≡ found_as (region_at h.regions x i)) where
-  pub left_gone : r ≡ is.Nothing → left_from h (entries_for h.regions x) i ≡ placed_apart h
+module _ (h : Header) (x : List ℕ) (i : ℕ) (r : Option Region) (f : r ≡ found_as (region_at h.regions x i)) where
+  pub left_gone : r ≡ None → left_from h (entries_for h.regions x) i ≡ placed_apart h
   unfolding left_from placement_from region_at
   left_gone g = ap (placement_from h i (take i (entries_for h.regions x))) (nth_gone (entries_for h.regions x) i (found_none (nth i (entries_for h.regions x)) (sym g ∙ f)))
 
-  module _ (p : Region) (g : r ≡ is.Found p) (o : Overlap) (l : o ≡ overlap_as (in_header h.regions (as_entry p)) (meets_from 0 (as_entry p) (take i (entries_for h.regions x)))) where
+  module _ (p : Region) (g : r ≡ Some p) (o : Result Unit Misplaced) (l : o ≡ overlap_as i (in_header h.regions (as_entry p)) (meets_from 0 (as_entry p) (take i (entries_for h.regions x)))) where
     entry : (e : Entry) × (nth i (entries_for h.regions x) ≡ Some e) × (p ≡ region_of e)
     unfolding region_at
     entry = found_some (nth i (entries_for h.regions x)) p (sym g ∙ f)
@@ -138,21 +131,18 @@ module _ (h : Header) (x : List ℕ) (i : ℕ) (r : RegionAt) (f : r ≡ found_a
         ∙ ap (λ (k : List Entry). placement_as in_header_lem met i (placement_from h (suc i) k (drop (suc i) es)))
         (take_next es i entry.0 entry.1)
 
-    lies : o ≡ overlap_as in_header_lem met
+    lies : o ≡ overlap_as i in_header_lem met
     unfolding in_header
     lies =
         let es = entries_for h.regions x in
-        l ∙ ap (λ (q : Region). overlap_as (in_header h.regions (as_entry q)) (meets_from 0 (as_entry q) (take i es))) entry.2
-        ∙ ap (overlap_as in_header_lem) (same_from 0 entry.0 (take i es))
+        l ∙ ap (λ (q : Region). overlap_as i (in_header h.regions (as_entry q)) (meets_from 0 (as_entry q) (take i es))) entry.2
+        ∙ ap (overlap_as i in_header_lem) (same_from 0 entry.0 (take i es))
 
-    pub left_header : o ≡ on.Header → left_from h (entries_for h.regions x) i ≡ over_header i
-    left_header k = opened ∙ on_header_lem in_header_lem met i behind (sym k ∙ lies)
+    pub left_on : (m : Misplaced) → o ≡ Err m → left_from h (entries_for h.regions x) i ≡ as_placement (Err m)
+    left_on m k = opened ∙ lies_on in_header_lem met i behind m (sym k ∙ lies)
 
-    pub left_region : (j : ℕ) → o ≡ on.Region j → left_from h (entries_for h.regions x) i ≡ over_region i j
-    left_region j k = opened ∙ on_region in_header_lem met i j behind (sym k ∙ lies)
-
-    pub left_next : o ≡ on.Nothing → left_from h (entries_for h.regions x) i ≡ behind
-    left_next k = opened ∙ on_nothing in_header_lem met i behind (sym k ∙ lies)
+    pub left_next : o ≡ Ok tt → left_from h (entries_for h.regions x) i ≡ behind
+    left_next k = opened ∙ lies_on_none in_header_lem met i behind (sym k ∙ lies)
 
 pub left_done : (h : Header) (x : List ℕ) (i : ℕ) → h.regions ≤ i → left_from h (entries_for h.regions x) i ≡ placed_apart h
 unfolding left_from placement_from

@@ -3,24 +3,25 @@ use Rattle.std.specs.Prelude.{◌≡◌, ◌&&◌, cond, List, ℕ, zero, suc, �
 use Rattle.model.specs.Bytes.{at}
 use Rattle.model.specs.Layout.{Entry}
 use Rattle.model.specs.Views.{nth}
+use Rattle.overlap.specs.declared.spans.SpanTable.{SpanTable}
 
 -- the last word of an entry, at most 2^32 - 1; 0 for an empty entry
 unfoldable pub last_word : Entry → ℕ
 last_word e = cond (eqb e.words 0) 0 (cond (ltb (e.offset + e.words - 1) 4294967295) (e.offset + e.words - 1) 4294967295)
 
--- the first of the k entries from j on that the words from a to b meet: xs has first words, and last words 1024 places on
-unfoldable pub overlaps_from : ℕ → ℕ → List ℕ → ℕ → ℕ → Option ℕ
-overlaps_from a b xs j zero = None
-overlaps_from a b xs j (suc k) = cond (leb a (at xs (1024 + j)) && leb (at xs j) b) (Some j) (overlaps_from a b xs (suc j) k)
+-- the first of the k entries from j on that the words from a to b meet, by their first words xs and their last words ys
+unfoldable pub overlaps_from : ℕ → ℕ → List ℕ → List ℕ → ℕ → ℕ → Option ℕ
+overlaps_from a b xs ys j zero = None
+overlaps_from a b xs ys j (suc k) = cond (leb a (at ys j) && leb (at xs j) b) (Some j) (overlaps_from a b xs ys (suc j) k)
 
-pub record SpanOf (es : List Entry) (xs : List ℕ) (high j : ℕ) : Type 0 where
+pub record SpanOf (es : List Entry) (t : SpanTable) (high j : ℕ) : Type 0 where
   pub entry : Entry
   pub there : nth j es ≡ Some entry
-  pub first : at xs j ≡ entry.offset
-  pub last : at xs (1024 + j) ≡ last_word entry
+  pub first : at t.first j ≡ entry.offset
+  pub last : at t.last j ≡ last_word entry
   pub small : entry.offset < 2 ^ 32
   pub below : entry.offset + entry.words ≤ high
 
--- xs holds the first i entries, which end at word high at the latest
-pub record Spans (es : List Entry) (i : ℕ) (xs : List ℕ) (high : ℕ) : Type 0 where
-  pub each : (j : ℕ) → j < i → SpanOf es xs high j
+-- t holds the first i entries, which end at word high at the latest
+pub record Holds (es : List Entry) (i : ℕ) (t : SpanTable) (high : ℕ) : Type 0 where
+  pub each : (j : ℕ) → j < i → SpanOf es t high j

@@ -1,2 +1,2 @@
-pub mod PathsLaw
+pub mod FolderLaw
 pub mod OneAnswer

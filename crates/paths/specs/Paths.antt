@@ -1,14 +1,14 @@
 -- The names of the files that the command writes (where a link leads, and the file that is written beside another), and a name as it is shown. (FORMAT 14)
-use Rattle.std.specs.Prelude.{Bool, cond, List, [], ◌∷◌, ◌++◌, ℕ, suc, eqb, ltb, length, take, get_or}
+use Rattle.std.specs.Prelude.{Bool, cond, not, List, [], ◌++◌, ℕ, ◌-◌, eqb, ltb, length, take, get_or}
+use Rattle.std.specs.List.{suffix_len}
 use Rattle.model.specs.Programs.{text}
 
--- the place behind the last slash of those from place i on, or `last` where there is none
-unfoldable pub behind_slash : List ℕ → ℕ → ℕ → ℕ
-behind_slash [] i last = last
-behind_slash (x ∷ xs) i last = behind_slash xs (suc i) (cond (eqb x 47) (suc i) last)
+abbrev pub is_slash : ℕ → Bool
+is_slash x = eqb x 47
 
-unfoldable pub folder_length : List ℕ → ℕ
-folder_length path = behind_slash path 0 0
+-- all but what stands behind the last slash, or nothing where there is none
+abbrev pub folder_length : List ℕ → ℕ
+folder_length path = length path - suffix_len (λ x. not (is_slash x)) path
 
 abbrev pub folder : List ℕ → List ℕ
 folder path = take (folder_length path) path
@@ -17,16 +17,16 @@ folder path = take (folder_length path) path
 abbrev pub longer_than_names : List ℕ → Bool
 longer_than_names path = ltb 4096 (length path)
 
-unfoldable pub temporary_name : List ℕ → List ℕ
+abbrev pub temporary_name : List ℕ → List ℕ
 temporary_name path = cond (longer_than_names path) [] (folder path ++ text ".kw-XXXXXX")
 
-unfoldable pub rooted : List ℕ → Bool
+abbrev pub rooted : List ℕ → Bool
 rooted link = eqb (get_or link 0 0) 47
 
 -- where the link at path leads: a text that begins with a slash is a name by itself, any other is one in the link's folder
-unfoldable pub followed_name : List ℕ → List ℕ → List ℕ
+abbrev pub followed_name : List ℕ → List ℕ → List ℕ
 followed_name path link = cond (longer_than_names path) [] (cond (longer_than_names link) [] (cond (rooted link) link (folder path ++ link)))
 
 -- a name as the start of a line on standard error, which the system's reason follows
-unfoldable pub subject_text : List ℕ → List ℕ
+abbrev pub subject_text : List ℕ → List ℕ
 subject_text name = cond (ltb 4096 (length name)) (text "kw") (text "kw: " ++ name)

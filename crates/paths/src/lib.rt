@@ -1,7 +1,7 @@
 // The names of the files that the command writes, and a name as it is shown. Each is put at the start of out, and its length given. (FORMAT 14)
-#![tactic(auto)]
+#![tactic(auto, using(put::proofs::PutLaw::sets_append), unfolding(model::specs::Programs::text))]
 
-ghost use Rattle.std.specs.Prelude.{◌≡◌, cond, ◌++◌, ◌+◌, ◌≤◌, eqb, length};
+ghost use Rattle.std.specs.Prelude.{◌≡◌, ◌++◌, ◌+◌, ◌≤◌, length};
 ghost use Rattle.std.proofs.lemmas.List.Edits.{sets};
 ghost use Rattle.io.specs.Counts.{IsPrefixLen};
 ghost use Rattle.put.specs.Put.{Put};
@@ -9,27 +9,18 @@ ghost use Rattle.paths.specs.Paths.{folder_length, folder, temporary_name, roote
 
 use put::put_bytes;
 
-const LONGEST_NAME: usize = 4096;
-
-// The place behind a byte, if that is a slash.
-fn behind_slash(byte: u8, behind: usize, last: usize) -> usize
-    ensures { result ≡ cond (eqb byte 47) behind last }
-{
-    if byte == b'/' { behind } else { last }
-}
+// The system takes no longer name.
+pub const LONGEST_NAME: usize = 4096;
 
 // How many bytes of a path name its folder, the last slash among them.
 pub fn folder_length(path: &[u8]) -> usize
     ensures is { result ≡ folder_length path.now }
     ensures fits { IsPrefixLen result path.now }
 {
-    let mut last: usize = 0;
-    let mut i: usize = 0;
-    while i < path.len() {
-        last = behind_slash(path[i], i + 1, last);
-        i += 1;
+    match path.iter().rposition(|byte| *byte == b'/') {
+        Some(last) => last + 1,
+        None => 0,
     }
-    last
 }
 
 // A name in path's folder.
@@ -57,11 +48,7 @@ pub fn temporary(path: &[u8], out: &mut [u8; 8192]) -> usize
 fn is_rooted(link: &[u8]) -> bool
     ensures { result ≡ rooted link.now }
 {
-    if link.len() > 0 {
-        link[0] == b'/'
-    } else {
-        false
-    }
+    link.first() == Some(&b'/')
 }
 
 // Where a link leads that stands at path and has this text.

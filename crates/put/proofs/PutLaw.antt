@@ -7,6 +7,7 @@ use native.Mathlib.Numerals.{add-one}
 use native.Mathlib.Omega.{arith}
 use lib.ListN.{length, get_or, take, drop, set, length-set, length-append, length-drop, drop_of_length-le}
 use lib.Seq.{sets, length-sets, sets-eq, take_at, drop_at, drop-cons, length-take-le}
+use borrow.Rule.Slice.PartMut.{put_mid, Post-is}
 use Rattle.put.specs.Put.{Put}
 
 pub sets_append : (o a b : List ℕ) (p : ℕ) → sets o p (a ++ b) ≡ sets (sets o p a) (p + length a) b
@@ -14,6 +15,20 @@ sets_append o [] b p = ap (λ (k : ℕ). sets o k b) (sym (add-zero p))
 sets_append o (x ∷ a) b p =
     sets_append (set o p x) a b (suc p)
     ∙ ap (λ (k : ℕ). sets (sets (set o p x) (suc p) a) k b) (suc-add p (length a) ∙ sym (add-suc p (length a)))
+
+-- bytes in the place of as many
+pub replaced : (o bs : List ℕ) (p : ℕ) {o' : List ℕ} → p + length bs ≤ length o → o' ≡ take p o ++ bs ++ drop (p + length bs) o → Put o p bs (p + length bs) o'
+replaced o bs p h e =
+    let s = e ∙ sym (sets-eq bs o p h) in
+    record { behind = refl; stored = s; long = ap length s ∙ length-sets o p bs }
+
+-- a part that was lent and came back with bytes
+pub came_back : (o bs : List ℕ) (p n : ℕ) {o' : List ℕ} → length bs ≡ n → p + n ≤ length o → o' ≡ put_mid p (p + n - p) o bs → Put o p bs (p + n) o'
+came_back o bs p n {o'} e h f =
+    subst (λ (k : ℕ). Put o p bs (p + k) o') e
+    (replaced o bs p (omega arith)
+    (f ∙ ap (λ (z : List ℕ). take p o ++ (bs ++ z)) (Post-is p (p + n) o (omega arith) ∙ ap (λ (k : ℕ). drop (p + k) o) (sym e))
+    ∙ sym (append_assoc (take p o) bs (drop (p + length bs) o))))
 
 -- two runs, one behind the other
 pub put_two : (o : List ℕ) (p : ℕ) (a b : List ℕ) {o₁ o₂ : List ℕ} {p₁ p₂ : ℕ} → Put o p a p₁ o₁ → Put o₁ p₁ b p₂ o₂ → Put o p (a ++ b) p₂ o₂

@@ -7,54 +7,34 @@ ghost use Rattle.model.specs.Bytes.{le_bytes};
 ghost use Rattle.model.specs.Programs.{decimal};
 ghost use Rattle.put.specs.Put.{Put};
 
-use scalar::{u16_bytes, u32_bytes, u64_bytes};
+use scalar::Number;
 
+// A loop, since `copy_from_slice` calls `memcpy`, and firmware may have no C library: the archive asks it for `memset` alone (tests/api.sh).
 pub fn put_bytes(out: &mut [u8], at: usize, bytes: &[u8]) -> usize
     requires { at + length bytes.now ≤ length out.old }
     ensures { Put out.old at bytes.now result out.new }
 {
-    let mut i: usize = 0;
-    while i < bytes.len() {
-        out[at + i] = bytes[i];
-        i += 1;
+    for (i, byte) in bytes.iter().enumerate() {
+        out[at + i] = *byte;
     }
-    at + i
+    at + bytes.len()
 }
 
 pub fn put_zeros(out: &mut [u8], at: usize, n: usize) -> usize
     requires { at + n ≤ length out.old }
     ensures { Put out.old at (replicate n 0) result out.new }
 {
-    let mut i: usize = 0;
-    while i < n {
-        out[at + i] = 0;
-        i += 1;
-    }
-    at + i
+    let end = at + n;
+    out[at..end].fill(0);
+    end
 }
 
-pub fn put_u16(out: &mut [u8], at: usize, v: u16) -> usize
-    requires { at + 2 ≤ length out.old }
-    ensures { Put out.old at (le_bytes 2 v) result out.new }
+// The bytes of a number, lowest first.
+pub fn put_number<T: Number<N>, const N: usize>(out: &mut [u8], at: usize, v: T) -> usize
+    requires { at + N ≤ length out.old }
+    ensures { Put out.old at (le_bytes N (T.value v)) result out.new }
 {
-    let bytes = u16_bytes(v);
-    put_bytes(out, at, &bytes)
-}
-
-pub fn put_u32(out: &mut [u8], at: usize, v: u32) -> usize
-    requires { at + 4 ≤ length out.old }
-    ensures { Put out.old at (le_bytes 4 v) result out.new }
-{
-    let bytes = u32_bytes(v);
-    put_bytes(out, at, &bytes)
-}
-
-pub fn put_u64(out: &mut [u8], at: usize, v: u64) -> usize
-    requires { at + 8 ≤ length out.old }
-    ensures { Put out.old at (le_bytes 8 v) result out.new }
-{
-    let bytes = u64_bytes(v);
-    put_bytes(out, at, &bytes)
+    put_bytes(out, at, &v.to_bytes())
 }
 
 // A text and a number in decimal, which has at most 20 digits.

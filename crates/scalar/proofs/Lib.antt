@@ -1,3 +1,3 @@
-pub mod Asked
+pub mod ReadLaw
 pub mod OneAnswer
 pub mod OrZero

@@ -1,12 +1,8 @@
--- What `or_zero` stands for where the k bytes are inside. Assumes nothing.
-use mathlib.Core.Path.{◌≡◌, sym, ap}
-use mathlib.Core.List.{List}
-use Prim.Native.Nat.{ℕ, ◌+◌, ◌≤◌}
+-- A word that is inside is the number that is read. Assumes nothing.
+use Rattle.std.proofs.Common.{◌≡◌, sym, ap, List, ℕ, ◌+◌, ◌≤◌, length, Option, unwrap_or}
 use borrow.Author.Tests.{le-leb}
-use lib.ListN.{length}
 use Rattle.model.specs.Bytes.{read, read_in}
 use Rattle.model.proofs.BytesLaw.{read_in_lem}
-use Rattle.scalar.specs.Answers.{or_zero}
 
-pub or_zero_in : (k : ℕ) (x : List ℕ) (p : ℕ) → p + k ≤ length x → or_zero (read_in k x p) ≡ read k x p
-or_zero_in k x p h = sym (ap or_zero (read_in_lem k x p (le-leb (p + k) (length x) h)))
+pub or_zero_in : (k : ℕ) (x : List ℕ) (p : ℕ) → p + k ≤ length x → unwrap_or (read_in k x p) 0 ≡ read k x p
+or_zero_in k x p h = sym (ap (λ (o : Option ℕ). unwrap_or o 0) (read_in_lem k x p (le-leb (p + k) (length x) h)))

@@ -1,166 +1,116 @@
 // Little-endian numbers out of bytes and into bytes, and the vote over three bytes.
-// Every reader is total: where its bytes run past the end it answers `Nothing`, at any offset.
-#![tactic(auto)]
+#![tactic(auto, unfolding(model::specs::Bytes::read, model::specs::Bytes::le_bytes))]
 
-ghost use Rattle.std.specs.Prelude.{◌≡◌, ◌+◌, ◌*◌, ◌≤◌, leb, length};
+ghost use Rattle.std.specs.Prelude.{◌≡◌, ℕ, option_map, unwrap_or};
+ghost use Rattle.std.proofs.Common.{rules};
 ghost use Rattle.bits.specs.Vote.{Majority};
 ghost use Rattle.model.specs.Bytes.{read, read_in, le_bytes};
 ghost use Rattle.model.specs.Layout as model;
-ghost use Rattle.scalar.specs.Answers.{as_model8, as_model16, as_model32, as_model64, or_zero};
+ghost use Rattle.scalar.specs.Number.{NumberLaws};
 
-#[derive(Clone, Copy)]
-pub enum U8At {
-    Value(u8),
-    Nothing,
+// An unsigned number that is stored in N bytes, lowest first.
+pub trait Number<const N: usize> {
+    ghost value: { Self → ℕ };
+
+    fn from_bytes(bytes: [u8; N]) -> Self
+        ensures { value result ≡ read N bytes.entry 0 };
+
+    fn to_bytes(self) -> [u8; N]
+        ensures { result ≡ le_bytes N (value self) };
+
+    ghost laws: { NumberLaws value N };
 }
 
-#[derive(Clone, Copy)]
-pub enum U16At {
-    Value(u16),
-    Nothing,
-}
+impl Number<1> for u8 {
+    ghost value = { λ v. v };
 
-#[derive(Clone, Copy)]
-pub enum U32At {
-    Value(u32),
-    Nothing,
-}
-
-#[derive(Clone, Copy)]
-pub enum U64At {
-    Value(u64),
-    Nothing,
-}
-
-// Whether the n bytes from at on lie inside b. A difference, since at + n can be more than a usize holds.
-fn has(b: &[u8], at: usize, n: usize) -> bool
-    ensures { result ≡ leb (at + n) (length b.now) }
-{
-    if b.len() < at {
-        return false;
+    fn from_bytes(bytes: [u8; 1]) -> u8
+        ensures { result ≡ read 1 bytes 0 }
+    {
+        u8::from_le_bytes(bytes)
     }
-    n <= b.len() - at
+
+    fn to_bytes(self) -> [u8; 1]
+        ensures { result ≡ le_bytes 1 self }
+    {
+        u8::to_le_bytes(self)
+    }
+
+    ghost laws = { record { few = Prim.search rules; one = λ _ _ e. e } };
 }
 
-pub fn u8_at(b: &[u8], at: usize) -> U8At
-    ensures { as_model8 result ≡ read_in 1 b.now at }
-{
-    if !has(b, at, 1) {
-        return U8At::Nothing;
+impl Number<2> for u16 {
+    ghost value = { λ v. v };
+
+    fn from_bytes(bytes: [u8; 2]) -> u16
+        ensures { result ≡ read 2 bytes 0 }
+    {
+        u16::from_le_bytes(bytes)
     }
-    U8At::Value(b[at])
+
+    fn to_bytes(self) -> [u8; 2]
+        ensures { result ≡ le_bytes 2 self }
+    {
+        u16::to_le_bytes(self)
+    }
+
+    ghost laws = { record { few = Prim.search rules; one = λ _ _ e. e } };
 }
 
-pub fn u16_at(b: &[u8], at: usize) -> U16At
-    ensures { as_model16 result ≡ read_in 2 b.now at }
-{
-    if !has(b, at, 2) {
-        return U16At::Nothing;
+impl Number<4> for u32 {
+    ghost value = { λ v. v };
+
+    fn from_bytes(bytes: [u8; 4]) -> u32
+        ensures { result ≡ read 4 bytes 0 }
+    {
+        u32::from_le_bytes(bytes)
     }
-    U16At::Value(u16_from(b, at))
+
+    fn to_bytes(self) -> [u8; 4]
+        ensures { result ≡ le_bytes 4 self }
+    {
+        u32::to_le_bytes(self)
+    }
+
+    ghost laws = { record { few = Prim.search rules; one = λ _ _ e. e } };
 }
 
-pub fn u32_at(b: &[u8], at: usize) -> U32At
-    ensures { as_model32 result ≡ read_in 4 b.now at }
-{
-    if !has(b, at, 4) {
-        return U32At::Nothing;
+impl Number<8> for u64 {
+    ghost value = { λ v. v };
+
+    fn from_bytes(bytes: [u8; 8]) -> u64
+        ensures { result ≡ read 8 bytes 0 }
+    {
+        u64::from_le_bytes(bytes)
     }
-    U32At::Value(u32_from(b, at))
+
+    fn to_bytes(self) -> [u8; 8]
+        ensures { result ≡ le_bytes 8 self }
+    {
+        u64::to_le_bytes(self)
+    }
+
+    ghost laws = { record { few = Prim.search rules; one = λ _ _ e. e } };
 }
 
-pub fn u64_at(b: &[u8], at: usize) -> U64At
-    ensures { as_model64 result ≡ read_in 8 b.now at }
+// The number in the N bytes from `at` on. It is total: `None` where they reach past the end, at any offset.
+pub fn number_at<T: Number<N>, const N: usize>(b: &[u8], at: usize) -> Option<T>
+    ensures { option_map T.value result ≡ read_in N b.now at }
 {
-    if !has(b, at, 8) {
-        return U64At::Nothing;
-    }
-    U64At::Value(u64_from(b, at))
+    let rest = b.get(at..)?;
+    let bytes = rest.first_chunk::<N>()?;
+    Some(T::from_bytes(*bytes))
 }
 
 // The word at `at`, and 0 where it would reach past the end: for a caller that knows that it doesn't.
 pub fn u64_or_zero(b: &[u8], at: usize) -> u64
-    ensures { result ≡ or_zero (read_in 8 b.now at) }
+    ensures { result ≡ unwrap_or (read_in 8 b.now at) 0 }
 {
-    if !has(b, at, 8) {
-        return 0;
-    }
-    u64_from(b, at)
-}
-
-// The number of the 2 bytes from at on, which are there.
-fn u16_from(b: &[u8], at: usize) -> u16
-    requires { at + 2 ≤ length b.now }
-    ensures { result ≡ read 2 b.now at }
-{
-    join_2(b[at], b[at + 1])
-}
-
-fn join_2(b0: u8, b1: u8) -> u16
-    ensures { result ≡ b0 + b1 * 256 }
-{
-    b0 as u16 + (b1 as u16) * 256
-}
-
-// The number of the 4 bytes from at on, by its two halves.
-fn u32_from(b: &[u8], at: usize) -> u32
-    requires { at + 4 ≤ length b.now }
-    ensures { result ≡ read 4 b.now at }
-{
-    let low = u16_from(b, at);
-    let high = u16_from(b, at + 2);
-    low as u32 + 0x1_0000 * (high as u32)
-}
-
-// The number of the 8 bytes from at on, by its two halves.
-fn u64_from(b: &[u8], at: usize) -> u64
-    requires { at + 8 ≤ length b.now }
-    ensures { result ≡ read 8 b.now at }
-{
-    let low = u32_from(b, at);
-    let high = u32_from(b, at + 4);
-    low as u64 + 0x1_0000_0000 * (high as u64)
-}
-
-pub fn u8_bytes(v: u8) -> [u8; 1]
-    ensures { result ≡ le_bytes 1 v }
-{
-    [v]
-}
-
-pub fn u16_bytes(v: u16) -> [u8; 2]
-    ensures { result ≡ le_bytes 2 v }
-{
-    [(v % 256) as u8, ((v / 256) % 256) as u8]
-}
-
-pub fn u32_bytes(v: u32) -> [u8; 4]
-    ensures { result ≡ le_bytes 4 v }
-{
-    [
-        (v % 256) as u8,
-        ((v / 256) % 256) as u8,
-        ((v / 65536) % 256) as u8,
-        ((v / 16_777_216) % 256) as u8,
-    ]
-}
-
-pub fn u64_bytes(v: u64) -> [u8; 8]
-    ensures { result ≡ le_bytes 8 v }
-{
-    [
-        (v % 256) as u8,
-        ((v / 256) % 256) as u8,
-        ((v / 65536) % 256) as u8,
-        ((v / 16_777_216) % 256) as u8,
-        ((v / 4_294_967_296) % 256) as u8,
-        ((v / 1_099_511_627_776) % 256) as u8,
-        ((v / 281_474_976_710_656) % 256) as u8,
-        ((v / 72_057_594_037_927_936) % 256) as u8,
-    ]
+    number_at(b, at).unwrap_or(0)
 }
 
 // Each bit is what two or more of the three bytes have there.
+#[tactic(auto, using(bits::proofs::VoteLaw::majority))]
 pub fn maj3(a: u8, b: u8, c: u8) -> u8
     ensures value { result ≡ model.maj3 a b c }
     ensures majority { Majority a b c result }

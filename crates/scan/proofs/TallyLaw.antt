@@ -78,6 +78,10 @@ pub room_report : (r : Report) (ks : List Class) → Room (report ks).words r �
 room_report r ks k =
     record { words = omega (arith, k.words); counts = bounded_plus r (report ks) k.counts (bounded_report ks) }
 
+-- a class that is put before others is counted behind them
+pub report_earlier : (ks : List Class) (k : Class) (w : ℕ) → plus (report ks) (report_on (outcome_as k w)) ≡ report (k ∷ ks)
+report_earlier ks k w = plus_comm (report ks) (report_on (outcome_as k w)) ∙ report_front k w ks
+
 -- ---- a run of words, counted one by one
 
 module _ (r : Report) where

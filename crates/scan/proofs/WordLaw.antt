@@ -1,33 +1,26 @@
--- What a word of the image and its check byte say, by the table of check bytes, and the class that follows. Assumes nothing.
+-- What a word of the image and its check byte say, and the class that follows. Assumes nothing.
 use mathlib.Core.Path.{◌≡◌, refl, sym, ap, ◌∙◌}
 use mathlib.Core.List.{List}
+use Rattle.std.specs.Prelude.{unwrap_or}
 use Prim.Native.Nat.{ℕ, ◌+◌, ◌*◌, ◌≤◌}
 use native.Mathlib.Omega.{arith}
 use lib.ListN.{length}
 use Rattle.model.specs.Bytes.{at, word_at, read_in}
-use Rattle.model.specs.Parity.{Class, clean, flipped, uncorrectable, flip_word, decode, Outcome, clean_word, corrected_word, uncorrectable_word, outcome_as, outcome}
+use Rattle.model.specs.Parity.{Class, clean, flipped, uncorrectable, flip_word, check_of, decode, Outcome, clean_word, corrected_word, uncorrectable_word, outcome_as, outcome}
 use Rattle.model.specs.Scan.{Codeword, class_at}
 use Rattle.model.proofs.ParityLaw.{decode_clean}
-use Rattle.scalar.specs.Answers.{or_zero}
 use Rattle.scalar.proofs.OrZero.{or_zero_in}
-use Rattle.ecc.specs.CheckTable.{IsCheckTable, check_with, outcome_with}
-use Rattle.ecc.proofs.CheckTableLaw.{table_check, table_outcome}
 
 -- ---- w is what code reads of a word, c its check byte
 
-module _ (x t : List ℕ) (word check w : ℕ) (h : 8 * word + 8 ≤ length x) (e : w ≡ or_zero (read_in 8 x (8 * word))) (table : IsCheckTable t) where
-  of_image : {o : Outcome} → o ≡ outcome w (at x check) → o ≡ outcome (word_at x word) (at x check)
-  of_image f = f ∙ ap (λ (n : ℕ). outcome n (at x check)) (e ∙ or_zero_in 8 x (8 * word) h)
+module _ (x : List ℕ) (word check w : ℕ) (h : 8 * word + 8 ≤ length x) (e : w ≡ unwrap_or (read_in 8 x (8 * word)) 0) where
+  pub decoded : {o : Outcome} → o ≡ outcome w (at x check) → o ≡ outcome (word_at x word) (at x check)
+  decoded f = f ∙ ap (λ (n : ℕ). outcome n (at x check)) (e ∙ or_zero_in 8 x (8 * word) h)
 
   -- a word with the check byte that it has to have is clean
-  pub matched_clean : (k : ℕ) → k ≡ check_with t w → k ≡ at x check → clean_word w ≡ outcome (word_at x word) (at x check)
+  pub matched_clean : (k : ℕ) → k ≡ check_of w → k ≡ at x check → clean_word w ≡ outcome (word_at x word) (at x check)
   unfolding outcome
-  matched_clean k f g =
-      let c = f ∙ ap (λ (l : List ℕ). check_with l w) table ∙ table_check w in
-      of_image (ap (λ (r : Class). outcome_as r w) (sym (ap (decode w) (sym g ∙ c) ∙ decode_clean w)))
-
-  pub decoded : {o : Outcome} → o ≡ outcome_with t w (at x check) → o ≡ outcome (word_at x word) (at x check)
-  decoded f = of_image (f ∙ ap (λ (l : List ℕ). outcome_with l w (at x check)) table ∙ table_outcome w (at x check))
+  matched_clean k f g = decoded (ap (λ (r : Class). outcome_as r w) (sym (ap (decode w) (sym g ∙ f) ∙ decode_clean w)))
 
 -- ---- the class that an outcome tells
 

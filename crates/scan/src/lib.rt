@@ -7,33 +7,31 @@ mod tally;
 ghost use Rattle.std.specs.Prelude.{◌≡◌, ◌^◌, ◌<◌};
 ghost use Rattle.model.specs.Scan.{classes_at, report, scan_of, scan_region, scan_in};
 ghost use Rattle.ecc.specs.Answers.{as_report};
-ghost use Rattle.ecc.specs.CheckTable.{IsCheckTable};
 ghost use Rattle.layout.specs.Regions.{as_entry};
 ghost use Rattle.scan.specs.Answers.{as_scan};
 ghost use Rattle.scan.specs.Runs.{codewords_of, visits_at, Fits};
 ghost use Rattle.scan.specs.Tally.{or_zeros};
 
-use ecc::{CheckTable, EMPTY_TABLE, EccReport, fill_check_table, plane_scan_with};
+use ecc::{CheckTable, EMPTY_TABLE, EccReport};
 use layout::Region;
 use runs::run_with_plane;
 pub use runs::{ProtectedRun, protected_run_at};
 pub use tally::{count_word, together};
 use view::Header;
 
-fn scan_run(table: &CheckTable, bytes: &[u8], run: ProtectedRun) -> EccReport
-    requires { Fits bytes.now run × IsCheckTable table.now }
+fn scan_run(table: CheckTable, bytes: &[u8], run: ProtectedRun) -> EccReport
+    requires { Fits bytes.now run }
     ensures { as_report result ≡ report (classes_at bytes.now (codewords_of run)) }
 {
     let start = 8 * run.word;
     let end = start + 8 * run.words;
     let check = run.check;
     let check_end = check + run.words;
-    plane_scan_with(table, &bytes[check..check_end], &bytes[start..end])
+    table.plane_scan(&bytes[check..check_end], &bytes[start..end])
 }
 
 // The report on entry i, if it is protected and has a plane.
-fn scan_entry(table: &CheckTable, bytes: &[u8], header: Header, i: u16) -> Option<EccReport>
-    requires { IsCheckTable table.now }
+fn scan_entry(table: CheckTable, bytes: &[u8], header: Header, i: u16) -> Option<EccReport>
     ensures is { as_scan result ≡ scan_of bytes.now (visits_at header.region_count bytes.now i) }
     ensures few { (or_zeros (as_scan result)).words < 2 ^ 32 }
 {
@@ -45,21 +43,21 @@ fn scan_entry(table: &CheckTable, bytes: &[u8], header: Header, i: u16) -> Optio
 pub fn verify_region(bytes: &[u8], header: Header, region: Region) -> Option<EccReport>
     ensures { as_scan result ≡ scan_region header.region_count bytes.now (as_entry region) }
 {
-    let mut table = EMPTY_TABLE;
-    fill_check_table(&mut table);
+    let mut room = EMPTY_TABLE;
+    let table = CheckTable::new(&mut room);
     let run = run_with_plane(bytes, header, region)?;
-    Some(scan_run(&table, bytes, run))
+    Some(scan_run(table, bytes, run))
 }
 
 // Every protected region against its plane, summed; nothing where no region is visited, which is not a clean scan.
 pub fn verify_all(bytes: &[u8], header: Header) -> Option<EccReport>
     ensures { as_scan result ≡ scan_in header.region_count bytes.now }
 {
-    let mut table = EMPTY_TABLE;
-    fill_check_table(&mut table);
+    let mut room = EMPTY_TABLE;
+    let table = CheckTable::new(&mut room);
     let mut total = None;
     for i in 0..header.region_count {
-        let found = scan_entry(&table, bytes, header, i);
+        let found = scan_entry(table, bytes, header, i);
         total = together(total, found);
     }
     total

@@ -1,9 +1,9 @@
 -- Scrub, word by word and region by region. Assumes nothing.
 use mathlib.Core.Path.{◌≡◌, refl, sym, ap, ap₂, ◌∙◌, subst}
-use mathlib.Core.Bool.{false}
+use mathlib.Core.Bool.{Bool, true, false, ◌||◌, or-false, or-true}
 use mathlib.Core.List.{List, [], ◌∷◌}
-use Rattle.std.specs.Prelude.{None}
-use Prim.Native.Nat.{ℕ, suc, ◌≤◌}
+use Rattle.std.specs.Prelude.{Option, None, Some}
+use Prim.Native.Nat.{ℕ, suc}
 use native.Mathlib.Omega.{arith}
 use lib.ListN.{length}
 use borrow.Author.Tests.{le-ltb}
@@ -13,90 +13,117 @@ use Rattle.model.specs.Refusals.{fine, refuse}
 use Rattle.model.specs.Layout.{header_length, count, directory}
 use Rattle.model.specs.Parse.{parse_verdict}
 use Rattle.model.specs.Views.{entries_for, region_at}
-use Rattle.model.specs.Scan.{Codeword, codewords_in, class_at, is_corrected, total, report}
+use Rattle.model.specs.Scan.{Report, Visit, Codeword, codewords_in, class_at, is_corrected, total, report}
 use Rattle.model.specs.Scrub.{State, stored_word, scrub_word, scrub_words, scrub_visits, scrub_region, scrub_from, reported, scrub}
 use Rattle.model.proofs.ParseLaw.{accepted_long}
 use Rattle.model.proofs.ScanLaw.{mark, visits_words}
 use Rattle.model.specs.Steps.{any_of}
-use Rattle.scan.specs.Tally.{Totals, no_totals, marked, counted, with_classes, reported_by}
-use Rattle.scan.proofs.TallyLaw.{count_next, count_none, counted_tally}
+use Rattle.model.specs.Bytes.{given}
+use Rattle.model.specs.Steps.{plus}
+use Rattle.model.proofs.ScanLaw.{none_plus, report_none, words_visited}
+use Rattle.scan.specs.Tally as scan
+use Rattle.scan.specs.Tally.{together, or_zeros, report_on}
+use Rattle.scan.proofs.TallyLaw.{count_next, count_none, report_earlier}
+use Rattle.correcting.proofs.CorrectLaw.{none_there, none_met}
 use Rattle.correcting.specs.Correct.{correct_at, correct_all, met}
 use Rattle.scrubbing.specs.Stands.{Stands, scrub_in}
 use Rattle.scan.specs.Runs.{visits_at}
 
 -- ---- words corrected by themselves
 
--- each takes the state where scrub's word takes it
-word_stands : (t : Totals) (x : List ℕ) (p : Codeword) (s : State) → Stands t x s → Stands (counted t (outcome_as (class_at x p) (word_at x p.word))) (correct_at false p x) (scrub_word p s)
+-- they take image and counts where scrub's words take them
+record Counted (t : Report) (x : List ℕ) (s : State) : Type 0 where
+  image : x ≡ s.image
+  counts : t ≡ report s.met
+
+word_counted : (t : Report) (x : List ℕ) (p : Codeword) (s : State) → Counted t x s
+    → Counted (plus t (report_on (outcome_as (class_at x p) (word_at x p.word)))) (correct_at false p x) (scrub_word p s)
 unfolding scrub_word correct_at
-word_stands t x p s k =
+word_counted t x p s k =
     record {
       image = ap (λ (z : List ℕ). stored_word (class_at z p) p z) k.image;
       counts =
-          ap₂ counted k.counts (ap (λ (z : List ℕ). outcome_as (class_at z p) (word_at z p.word)) k.image)
-          ∙ counted_tally s.visited s.met (class_at s.image p) (word_at s.image p.word);
+          ap₂ plus k.counts (ap (λ (z : List ℕ). report_on (outcome_as (class_at z p) (word_at z p.word))) k.image)
+          ∙ report_earlier s.met (class_at s.image p) (word_at s.image p.word);
     }
 
-words_stand : (ps : List Codeword) (t : Totals) (x : List ℕ) (s : State) → Stands t x s → Stands (with_classes t (met false x ps)) (correct_all false ps x) (scrub_words ps s)
+words_counted : (ps : List Codeword) (t : Report) (x : List ℕ) (s : State) → Counted t x s
+    → Counted (plus t (report (met false x ps))) (correct_all false ps x) (scrub_words ps s)
 unfolding met correct_all scrub_words
-words_stand [] t x s k = subst (λ (z : Totals). Stands z x s) (sym (count_none t)) k
-words_stand (p ∷ ps) t x s k =
+words_counted [] t x s k = subst (λ (z : Report). Counted z x s) (sym (count_none t)) k
+words_counted (p ∷ ps) t x s k =
     let y = correct_at false p x in
-    subst (λ (z : Totals). Stands z (correct_all false ps y) (scrub_words ps (scrub_word p s))) (count_next t (class_at x p) (word_at x p.word) (met false y ps))
-    (words_stand ps (counted t (outcome_as (class_at x p) (word_at x p.word))) y (scrub_word p s) (word_stands t x p s k))
+    subst (λ (z : Report). Counted z (correct_all false ps y) (scrub_words ps (scrub_word p s))) (count_next t (class_at x p) (word_at x p.word) (met false y ps))
+    (words_counted ps (plus t (report_on (outcome_as (class_at x p) (word_at x p.word)))) y (scrub_word p s) (word_counted t x p s k))
 
--- ---- where nothing more is counted as corrected, nothing is written
-
-corrections : State → ℕ
-corrections s = total is_corrected s.met
-
-words_grow : (ps : List Codeword) (s : State) → corrections s ≤ corrections (scrub_words ps s)
-unfolding scrub_words scrub_word corrections total
-words_grow [] s = omega arith
-words_grow (p ∷ ps) s = omega (arith, words_grow ps (scrub_word p s))
+-- ---- where no word is corrected, nothing is written
 
 kept_class : (k : Class) (p : Codeword) (x : List ℕ) → is_corrected k ≡ 0 → stored_word k p x ≡ x
 kept_class clean p x e = refl
 kept_class (flipped i) p x e = absurd (omega arith)
 kept_class uncorrectable p x e = refl
 
-words_same : (ps : List Codeword) (s : State) → corrections (scrub_words ps s) ≡ corrections s → (scrub_words ps s).image ≡ s.image
-unfolding scrub_words scrub_word corrections total
-words_same [] s e = refl
-words_same (p ∷ ps) s e =
-    let g = words_grow ps (scrub_word p s) in
-    let z : is_corrected (class_at s.image p) ≡ 0 = omega arith in
-    let h : corrections (scrub_words ps (scrub_word p s)) ≡ corrections (scrub_word p s) = omega arith in
-    words_same ps (scrub_word p s) h ∙ kept_class (class_at s.image p) p s.image z
+none_written : (ps : List Codeword) (x : List ℕ) → (report (met false x ps)).corrected ≡ 0 → correct_all false ps x ≡ x
+unfolding met correct_all correct_at report total
+none_written [] x e = refl
+none_written (p ∷ ps) x e =
+    let y = stored_word (class_at x p) p x in
+    let z : is_corrected (class_at x p) ≡ 0 = omega arith in
+    let h : (report (met false y ps)).corrected ≡ 0 = omega arith in
+    none_written ps y h ∙ kept_class (class_at x p) p x z
 
 -- ---- region i
 
+no_counts : (vs : List Visit) (ks : List Class) → (vs ≡ [] → ks ≡ []) → (or_zeros (scan.reported vs ks)).corrected ≡ 0 → (report ks).corrected ≡ 0
+no_counts [] ks f e = ap (λ (ls : List Class). (report ls).corrected) (f refl) ∙ ap (λ (r : Report). r.corrected) report_none
+no_counts (v ∷ vs) ks f e = e
+
+-- a region without a visit meets no word
+no_words : (vs : List Visit) (s : State) (x : List ℕ) → (s.visited ≡ false → s.met ≡ []) → s.visited || any_of vs ≡ false
+    → (scrub_words (codewords_in vs) (mark (any_of vs) s)).met ≡ []
+unfolding codewords_in scrub_words
+no_words [] s x f e = f (sym (or-false s.visited) ∙ e)
+no_words (v ∷ vs) s x f e = let z : true ≡ false = sym (or-true s.visited) ∙ e in cc
+
+-- with the visits vs of a region, a report grows as scrub's does
+grown : (vs : List Visit) (s : State) (ks : List Class) → (s.visited ≡ false → s.met ≡ []) → (vs ≡ [] → ks ≡ [])
+    → together (reported s) (scan.reported vs ks) ≡ given (s.visited || any_of vs) (plus (report s.met) (report ks))
+grown vs s ks f g = go s.visited s.met vs f g
+  where
+    go : (t : Bool) (ms : List Class) (vs : List Visit) → (t ≡ false → ms ≡ []) → (vs ≡ [] → ks ≡ [])
+        → together (given t (report ms)) (scan.reported vs ks) ≡ given (t || any_of vs) (plus (report ms) (report ks))
+    go true ms [] f g = ap Some (sym (ap (λ (ls : List Class). plus (report ms) (report ls)) (g refl) ∙ count_none (report ms)))
+    go true ms (v ∷ vs) f g = refl
+    go false ms [] f g = refl
+    go false ms (v ∷ vs) f g = ap Some (sym (ap (λ (ls : List Class). plus (report ls) (report ks)) (f refl) ∙ ap (λ (z : Report). plus z (report ks)) report_none ∙ none_plus (report ks)))
+
 module _ (n i : ℕ) where
-  -- the mark of its visit, then its words
-  pub region_stands : (t : Totals) (x : List ℕ) (s : State) → Stands t x s → (r : Totals) (y : List ℕ)
-      → r ≡ with_classes (marked t (any_of (visits_at n x i))) (met false x (codewords_in (visits_at n x i))) → y ≡ correct_all false (codewords_in (visits_at n x i)) x
-      → Stands r y (scrub_in n i s)
+  pub region_stands : (o : Option Report) (x : List ℕ) (s : State) → Stands o x s → (r : Option Report) (y : List ℕ)
+      → r ≡ scan.reported (visits_at n x i) (met false x (codewords_in (visits_at n x i))) → y ≡ correct_all false (codewords_in (visits_at n x i)) x
+      → Stands (together o r) y (scrub_in n i s)
   unfolding scrub_in
-  region_stands t x s k r y e f =
+  region_stands o x s k r y e f =
       let vs = visits_at n x i in
       let ps = codewords_in vs in
-      let m : Stands (marked t (any_of vs)) x (mark (any_of vs) s) =
-      record { image = k.image; counts = ap (λ (c : Totals). marked c (any_of vs)) k.counts } in
-      subst (Stands r y) (sym (visits_words vs s) ∙ ap (λ (z : List ℕ). scrub_visits (visits_at n z i) s) k.image)
-      (rw (e, f) (words_stand ps (marked t (any_of vs)) x (mark (any_of vs) s) m))
+      let m = mark (any_of vs) s in
+      let c = words_counted ps (report s.met) x m (record { image = k.image; counts = refl }) in
+      subst (Stands (together o r) y) (sym (visits_words vs s) ∙ ap (λ (z : List ℕ). scrub_visits (visits_at n z i) s) k.image)
+      (record {
+        image = f ∙ c.image;
+        counts =
+            ap₂ together k.counts e ∙ grown vs s (met false x ps) k.unvisited (λ z. none_met false x ps (none_there vs z).1)
+            ∙ ap₂ given (sym (words_visited ps m)) c.counts;
+        unvisited = λ z. no_words vs s x k.unvisited (sym (words_visited ps m) ∙ z);
+      })
 
   -- it writes nothing where it corrects nothing
-  region_same : (s : State) → corrections (scrub_in n i s) ≡ corrections s → (scrub_in n i s).image ≡ s.image
-  unfolding scrub_in corrections
-  region_same s e =
-      let vs = visits_at n s.image i in
-      let q = visits_words vs s in
-      ap (λ (t : State). t.image) q ∙ words_same (codewords_in vs) (mark (any_of vs) s) (sym (ap corrections q) ∙ e)
-
-  pub image_same : (t t' : Totals) (x y : List ℕ) (s : State) → Stands t x s → Stands t' y (scrub_in n i s) → t.report.corrected ≡ t'.report.corrected → y ≡ x
-  unfolding corrections report
-  image_same t t' x y s k k' e =
-      k'.image ∙ region_same s (sym (ap (λ (c : Totals). c.report.corrected) k'.counts) ∙ sym e ∙ ap (λ (c : Totals). c.report.corrected) k.counts) ∙ sym k.image
+  pub image_same : (x y : List ℕ) (r : Option Report)
+      → r ≡ scan.reported (visits_at n x i) (met false x (codewords_in (visits_at n x i))) → y ≡ correct_all false (codewords_in (visits_at n x i)) x
+      → (or_zeros r).corrected ≡ 0 → y ≡ x
+  image_same x y r e f z =
+      let vs = visits_at n x i in
+      f ∙ none_written (codewords_in vs) x (no_counts vs (met false x (codewords_in vs)) (λ q. none_met false x (codewords_in vs) (none_there vs q).1)
+      (ap (λ (o : Option Report). (or_zeros o).corrected) (sym e) ∙ z))
 
 -- ---- the whole
 
@@ -125,10 +152,5 @@ pub scrub_starts : (x : List ℕ) → parse_verdict x ≡ fine
 unfolding scrub
 scrub_starts x h = rw h
 
-pub start_stands : (x : List ℕ) → Stands no_totals x (record { image = x; met = []; visited = false })
-unfolding report total
-start_stands x = record { image = refl; counts = refl }
-
-pub stands_report : (t : Totals) (x : List ℕ) (s : State) → Stands t x s → reported_by t ≡ reported s
-unfolding report
-stands_report t x s k = ap reported_by k.counts
+pub start_stands : (x : List ℕ) → Stands None x (record { image = x; met = []; visited = false })
+start_stands x = record { image = refl; counts = refl; unvisited = λ e. refl }

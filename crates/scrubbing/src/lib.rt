@@ -6,35 +6,34 @@ ghost use Rattle.scan.specs.Answers.{as_scan};
 ghost use Rattle.model.specs.Scrub as model;
 
 use correcting::correct_region;
-use ecc::{EMPTY_TABLE, fill_check_table};
-use scan::{ScanResult, empty_tally, scan_result};
-use view::{ParseResult, parse};
+use ecc::{CheckTable, EMPTY_TABLE, EccReport};
+use scan::together;
+use view::parse;
 
 // Repairs the corrected words of every protected region and hands back counts: what is left has to be checked afresh.
 // The image is parsed again before a region only where something was written since.
-pub fn scrub(bytes: &mut [u8]) -> ScanResult
+pub fn scrub(bytes: &mut [u8]) -> Option<EccReport>
     ensures is { as_scan result ≡ (model.scrub bytes.old).report }
     ensures leaves { bytes.new ≡ (model.scrub bytes.old).image }
 {
-    let ParseResult::Parsed(first) = parse(bytes) else {
-        return ScanResult::Nothing;
+    let Ok(first) = parse(bytes) else {
+        return None;
     };
-    let mut table = EMPTY_TABLE;
-    fill_check_table(&mut table);
+    let mut room = EMPTY_TABLE;
+    let table = CheckTable::new(&mut room);
     let mut header = first;
-    let mut written: usize = 0;
-    let mut tally = empty_tally();
-    let mut i: u16 = 0;
-    while i < first.region_count {
-        if tally.report.corrected != written {
-            let ParseResult::Parsed(again) = parse(bytes) else {
-                return ScanResult::Nothing;
+    let mut written = false;
+    let mut total = None;
+    for i in 0..first.region_count {
+        if written {
+            let Ok(again) = parse(bytes) else {
+                return None;
             };
             header = again;
-            written = tally.report.corrected;
         }
-        tally = correct_region(&table, bytes, header, i, false, tally);
-        i += 1;
+        let found = correct_region(table, bytes, header, i, false);
+        written = found.is_some_and(EccReport::needs_scrub);
+        total = together(total, found);
     }
-    scan_result(tally)
+    total
 }

@@ -1,2 +1,2 @@
-pub mod LinesLaw
+pub mod FilledLaw
 pub mod OneAnswer

@@ -1,115 +1,67 @@
 // A refusal in words. (FORMAT 14)
-#![tactic(auto)]
+#![tactic(auto, unfolding(model::specs::Programs::text, crate::specs::Sentences::sentence))]
 
-ghost use Rattle.std.specs.Prelude.{◌≡◌, cond, ◌+◌, ◌-◌, ◌≤◌, eqb, length};
+ghost use Rattle.std.specs.Prelude.{◌≡◌, ℕ, ◌++◌, ◌+◌, ◌<◌, ◌≤◌, length, MatchOption, IfSome};
 ghost use Rattle.std.proofs.lemmas.List.Edits.{sets};
 ghost use Rattle.io.specs.Counts.{IsPrefixLen};
-ghost use Rattle.put.specs.Put.{Put};
+ghost use Rattle.error.specs.Refused.{detail_of};
+ghost use Rattle.model.specs.Programs.{decimal};
 ghost use Rattle.sentences.specs.Sentences.{sentence};
-ghost use Rattle.sentences.specs.Lines.{place, line_start, first_line, filled, Tells};
+ghost use Rattle.sentences.specs.Templates.{filled};
 
 use error::Refusal;
 use put::{put_bytes, put_field};
 
-// The place of the first such byte, or the end.
-fn find(text: &[u8], byte: u8) -> usize
-    ensures is { result ≡ place byte text.now }
-    ensures fits { IsPrefixLen result text.now }
+// The sentence on a refusal, with # in the place of its detail.
+fn template(refusal: Refusal) -> &'static str
+    ensures says { filled (detail_of refusal) result.now ≡ sentence refusal }
+    ensures short { length result.now ≤ 100 }
 {
-    let mut i: usize = 0;
-    while i < text.len() {
-        if text[i] == byte {
-            return i;
+    match refusal {
+        Refusal::Truncated => "the image ends inside its header (Truncated)",
+        Refusal::BadMagic => "not a keleusma-wire image (BadMagic)",
+        Refusal::ForeignEndian => "the byte order is not little-endian (ForeignEndian)",
+        Refusal::UnsupportedVersion { .. } => {
+            "version # of the format is not supported (UnsupportedVersion)"
         }
-        i += 1;
-    }
-    i
-}
-
-// How many line feeds are to come once a byte is passed.
-fn feeds_left(left: u32, byte: u8) -> u32
-    requires { 1 ≤ left }
-    ensures { result ≡ cond (eqb byte 10) (left - 1) left }
-{
-    if byte == b'\n' { left - 1 } else { left }
-}
-
-// The place behind so many line feeds, or the end.
-fn line_start(lines: &[u8], number: u32) -> usize
-    ensures is { result ≡ line_start number lines.now }
-    ensures within { result ≤ length lines.now }
-{
-    let mut left = number;
-    let mut i: usize = 0;
-    while i < lines.len() {
-        if left == 0 {
-            return i;
+        Refusal::BadPrologueChecksum => "the header's checksum is wrong (BadPrologueChecksum)",
+        Refusal::TooManyRegions { .. } => "# regions are more than 1024 (TooManyRegions)",
+        Refusal::RegionOutOfBounds { .. } => "entry # ends past the image (RegionOutOfBounds)",
+        Refusal::DuplicateRegion { .. } => "kind # stands twice in the directory (DuplicateRegion)",
+        Refusal::BadRecordStride => "the stride of a table does not fit (BadRecordStride)",
+        Refusal::Overflow => "a size has more than 64 bits (Overflow)",
+        Refusal::TooLarge => "the image would be too large (TooLarge)",
+        Refusal::OverlappingRegions { .. } => {
+            "entry # lies on the header or on an earlier region (OverlappingRegions)"
         }
-        left = feeds_left(left, lines[i]);
-        i += 1;
+        Refusal::NoRoom => "there is no room for the image (NoRoom)",
+        Refusal::BadPlan { .. } => "row # of the plan is wrong (BadPlan)",
+        Refusal::BadHexLine { .. } => "line # is no line of a hex text (BadHexLine)",
+        Refusal::HexGap { .. } => { "line # does not go on where the bytes before it end (HexGap)" }
     }
-    i
 }
 
-// A text with n in the place of its first #, or as it is where it has none.
-fn put_filled(out: &mut [u8], text: &[u8], n: u64) -> usize
-    requires { length text.now + 20 ≤ length out.old }
-    ensures is { Put out.old 0 (filled n text.now) result out.new }
-    ensures few { result ≤ length text.now + 20 }
+// What stands before and behind the place of the detail, where there is one.
+fn split(template: &str) -> Option<(&str, &str)>
+    ensures shorter { IfSome result (λ parts. length parts.0.now + length parts.1.now < length template.now) }
+    ensures fills { (n : ℕ) → MatchOption result (filled n template.now ≡ template.now) (λ parts. filled n template.now ≡ parts.0.now ++ (decimal n ++ parts.1.now)) }
 {
-    let mark = find(text, b'#');
-    if mark == text.len() {
-        return put_bytes(out, 0, text);
-    }
-    let end = put_field(out, 0, &text[..mark], n);
-    put_bytes(out, end, &text[mark + 1..])
+    template.split_once('#')
 }
 
-fn put_first_line(out: &mut [u8], lines: &[u8], n: u64) -> usize
-    requires { length (first_line lines.now) + 20 ≤ length out.old }
-    ensures is { Put out.old 0 (filled n (first_line lines.now)) result out.new }
-    ensures few { result ≤ length (first_line lines.now) + 20 }
-{
-    let end = find(lines, b'\n');
-    put_filled(out, &lines[..end], n)
-}
-
-fn put_line(out: &mut [u8], lines: &[u8], refusal: Refusal) -> usize
-    requires told { Tells lines.now refusal }
-    requires room { 120 ≤ length out.old }
-    ensures is { Put out.old 0 (sentence refusal) result out.new }
-    ensures few { result ≤ 120 }
-{
-    let number = refusal.number();
-    let n = refusal.detail();
-    let start = line_start(lines, number);
-    put_first_line(out, &lines[start..], n)
-}
-
-// The sentence on a refusal. That of number n is the line behind n line feeds, with # in the place of the detail.
+// The sentence on a refusal.
 pub fn in_words(refusal: Refusal, out: &mut [u8; 128]) -> usize
     ensures is { result ≡ length (sentence refusal) }
     ensures leaves { out.new ≡ sets out.old 0 (sentence refusal) }
     ensures fits { IsPrefixLen result out.new }
     ensures few { result ≤ 120 }
 {
-    let lines = b"
-the image ends inside its header (Truncated)
-not a keleusma-wire image (BadMagic)
-the byte order is not little-endian (ForeignEndian)
-version # of the format is not supported (UnsupportedVersion)
-the header's checksum is wrong (BadPrologueChecksum)
-# regions are more than 1024 (TooManyRegions)
-entry # ends past the image (RegionOutOfBounds)
-kind # stands twice in the directory (DuplicateRegion)
-the stride of a table does not fit (BadRecordStride)
-a size has more than 64 bits (Overflow)
-the image would be too large (TooLarge)
-entry # lies on the header or on an earlier region (OverlappingRegions)
-there is no room for the image (NoRoom)
-row # of the plan is wrong (BadPlan)
-line # is no line of a hex text (BadHexLine)
-line # does not go on where the bytes before it end (HexGap)
-";
-    put_line(out, lines, refusal)
+    let text = template(refusal);
+    match split(text) {
+        None => put_bytes(out, 0, text.as_bytes()),
+        Some((before, behind)) => {
+            let end = put_field(out, 0, before.as_bytes(), refusal.detail());
+            put_bytes(out, end, behind.as_bytes())
+        }
+    }
 }

@@ -1,1 +1,2 @@
+pub mod RejectedLaw
 pub mod OneAnswer

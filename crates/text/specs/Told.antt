@@ -2,6 +2,9 @@
 use Rattle.std.specs.Prelude.{Bool, cond, List, [], ◌∷◌, ◌++◌, map, ℕ, ltb, length, Option, None, Some}
 use Rattle.model.specs.Mend.{MendAnswer, refused_mend, mended}
 use Rattle.model.specs.Programs.{Found, too_long, refused_image, image, mend_within, report_lines, text, field, too_long_line, refused_line, regions_line, stored_line, lines}
+use Rattle.error.specs.Refused.{number_of, detail_of}
+use Rattle.findings.specs.declared.Rejected.{Rejected}
+use Rattle.findings.specs.declared.Rejected.TheVariants.{TooLong, Refused}
 use Rattle.findings.specs.Answers.{left_within, uncorrectable_in}
 
 -- what stands before a line on one of several files
@@ -14,6 +17,11 @@ file_lines name several f = lines (map (λ (l : List ℕ). prefix name several +
 -- the report on a file; no name is longer than 4,096 bytes, and for one that were nothing is said
 unfoldable pub file_report : List ℕ → Bool → Found → List ℕ
 file_report name several f = cond (ltb 4096 (length name)) [] (file_lines name several f)
+
+-- the line on what is not looked at, or not mended
+abbrev pub rejected_line : Rejected → List ℕ
+rejected_line TooLong = too_long_line
+rejected_line (Refused r) = refused_line (number_of r) (detail_of r)
 
 -- ---- mend
 

@@ -10,7 +10,6 @@ ghost use Rattle.io.specs.Counts.{IsPrefixLen};
 ghost use Rattle.model.specs.Programs.{report_text, scrub_image, scrub_text};
 ghost use Rattle.text.specs.Told.{left_in};
 
-use findings::Outcome;
 use layout::MAX_INPUT_BYTES;
 pub use told::{file_report, mend_report};
 use told::{put_outcome, put_report};
@@ -43,11 +42,10 @@ pub fn scrub(image: &mut [u8], out: &mut [u8; 128]) -> Printed
     let outcome = findings::mend_within(image, MAX_INPUT_BYTES);
     let line = put_outcome(out, outcome);
     match outcome {
-        Outcome::TooLong => Printed { image: 0, line },
-        Outcome::Refused(_) => Printed { image: 0, line },
-        Outcome::Mended(_) => Printed {
+        Ok(_) => Printed {
             image: image.len(),
             line,
         },
+        Err(_) => Printed { image: 0, line },
     }
 }

@@ -2,17 +2,17 @@
 ghost use Rattle.std.specs.Prelude.{Some, ℕ, ◌+◌, ◌≤◌, length};
 ghost use Rattle.put.specs.Put.{Put};
 ghost use Rattle.model.specs.Programs.{line_feed, too_long_line, refused_line, regions_line, ecc_line, stored_line};
-ghost use Rattle.text.specs.Told.{uncorrectable_line};
+ghost use Rattle.text.specs.Told.{rejected_line, uncorrectable_line};
 ghost use Rattle.ecc.specs.Answers.{as_report};
 ghost use Rattle.error.specs.Refused.{number_of, detail_of};
 ghost use Rattle.scan.specs.Answers.{as_scan};
 
 use ecc::EccReport;
 use error::Refusal;
+use findings::Rejected;
 use put::{put_bytes, put_field};
-use scan::ScanResult;
 
-pub(crate) fn put_too_long(out: &mut [u8], at: usize) -> usize
+fn put_too_long(out: &mut [u8], at: usize) -> usize
     requires { at + 8 ≤ length out.old }
     ensures is { Put out.old at too_long_line result out.new }
     ensures few { result ≤ at + 8 }
@@ -20,13 +20,24 @@ pub(crate) fn put_too_long(out: &mut [u8], at: usize) -> usize
     put_bytes(out, at, b"too-long")
 }
 
-pub(crate) fn put_refused(out: &mut [u8], at: usize, refusal: Refusal) -> usize
+fn put_refused(out: &mut [u8], at: usize, refusal: Refusal) -> usize
     requires { at + 49 ≤ length out.old }
     ensures is { Put out.old at (refused_line (number_of refusal) (detail_of refusal)) result out.new }
     ensures few { result ≤ at + 49 }
 {
     let detail = put_field(out, at, b"refused ", refusal.number() as u64);
     put_field(out, detail, b" ", refusal.detail())
+}
+
+pub(crate) fn put_rejected(out: &mut [u8], at: usize, rejected: Rejected) -> usize
+    requires { at + 49 ≤ length out.old }
+    ensures is { Put out.old at (rejected_line rejected) result out.new }
+    ensures few { result ≤ at + 49 }
+{
+    match rejected {
+        Rejected::TooLong => put_too_long(out, at),
+        Rejected::Refused(refusal) => put_refused(out, at, refusal),
+    }
 }
 
 pub(crate) fn put_stored(out: &mut [u8], at: usize, stored: usize) -> usize
@@ -68,14 +79,14 @@ fn put_counts(out: &mut [u8], at: usize, counts: EccReport) -> usize
     put_field(out, uncorrectable, b" ", counts.uncorrectable as u64)
 }
 
-pub(crate) fn put_ecc(out: &mut [u8], at: usize, report: ScanResult) -> usize
+pub(crate) fn put_ecc(out: &mut [u8], at: usize, report: Option<EccReport>) -> usize
     requires { at + 66 ≤ length out.old }
     ensures is { Put out.old at (ecc_line (as_scan report)) result out.new }
     ensures few { result ≤ at + 66 }
 {
     match report {
-        ScanResult::Nothing => put_bytes(out, at, b"ecc none"),
-        ScanResult::Report(counts) => put_counts(out, at, counts),
+        Some(counts) => put_counts(out, at, counts),
+        None => put_bytes(out, at, b"ecc none"),
     }
 }
 

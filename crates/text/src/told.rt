@@ -9,11 +9,12 @@ ghost use Rattle.findings.specs.Answers.{as_found, as_outcome};
 ghost use Rattle.text.specs.Told.{prefix, first_line, file_lines, file_report, uncorrectable_lines, mend_text};
 
 use crate::line::{
-    put_ecc, put_line_feed, put_refused, put_regions, put_stored, put_too_long, put_uncorrectable,
+    put_ecc, put_line_feed, put_regions, put_rejected, put_stored, put_uncorrectable,
 };
-use findings::{Found, Outcome};
+use ecc::EccReport;
+use findings::{Findings, Rejected};
+use mending::Mending;
 use put::put_bytes;
-use scan::ScanResult;
 
 fn put_prefix(out: &mut [u8], at: usize, name: &[u8], several: bool) -> usize
     requires { at + length name.now + 2 ≤ length out.old }
@@ -29,20 +30,25 @@ fn put_prefix(out: &mut [u8], at: usize, name: &[u8], several: bool) -> usize
 }
 
 // The first line of the report, without its line feed.
-fn put_first(out: &mut [u8], at: usize, found: Found) -> usize
+fn put_first(out: &mut [u8], at: usize, found: Result<Findings, Rejected>) -> usize
     requires { at + 49 ≤ length out.old }
     ensures is { Put out.old at (first_line (as_found found)) result out.new }
     ensures few { result ≤ at + 49 }
 {
     match found {
-        Found::TooLong => put_too_long(out, at),
-        Found::Refused(refusal) => put_refused(out, at, refusal),
-        Found::Image(f) => put_regions(out, at, f.regions, f.needs_scrub),
+        Ok(f) => put_regions(out, at, f.regions, f.needs_scrub),
+        Err(rejected) => put_rejected(out, at, rejected),
     }
 }
 
 // The report's second line, with the file's name before it where there are several, and its line feed.
-fn put_second(out: &mut [u8], at: usize, name: &[u8], several: bool, report: ScanResult) -> usize
+fn put_second(
+    out: &mut [u8],
+    at: usize,
+    name: &[u8],
+    several: bool,
+    report: Option<EccReport>,
+) -> usize
     requires { at + length name.now + 69 ≤ length out.old }
     ensures is { Put out.old at (lines ((prefix name.now several ++ ecc_line (as_scan report)) ∷ [])) result out.new }
     ensures few { result ≤ at + length name.now + 69 }
@@ -52,7 +58,12 @@ fn put_second(out: &mut [u8], at: usize, name: &[u8], several: bool, report: Sca
     put_line_feed(out, end)
 }
 
-pub(crate) fn put_report(out: &mut [u8], name: &[u8], several: bool, found: Found) -> usize
+pub(crate) fn put_report(
+    out: &mut [u8],
+    name: &[u8],
+    several: bool,
+    found: Result<Findings, Rejected>,
+) -> usize
     requires { length name.now + length name.now + 121 ≤ length out.old }
     ensures is { Put out.old 0 (file_lines name.now several (as_found found)) result out.new }
     ensures few { result ≤ length name.now + length name.now + 121 }
@@ -61,19 +72,20 @@ pub(crate) fn put_report(out: &mut [u8], name: &[u8], several: bool, found: Foun
     let end = put_first(out, start, found);
     let second = put_line_feed(out, end);
     match found {
-        Found::TooLong => second,
-        Found::Refused(_) => second,
-        Found::Image(f) => {
-            let report = f.report;
-            put_second(out, second, name, several, report)
-        }
+        Ok(f) => put_second(out, second, name, several, f.report),
+        Err(_) => second,
     }
 }
 
 const LONGEST_NAME: usize = 4096;
 
 // The report's lines on a file, each behind the file's name where there are several.
-pub fn file_report(name: &[u8], several: bool, found: Found, out: &mut [u8; 8448]) -> usize
+pub fn file_report(
+    name: &[u8],
+    several: bool,
+    found: Result<Findings, Rejected>,
+    out: &mut [u8; 8448],
+) -> usize
     ensures is { result ≡ length (file_report name.now several (as_found found)) }
     ensures leaves { out.new ≡ sets out.old 0 (file_report name.now several (as_found found)) }
     ensures fits { IsPrefixLen result out.new }
@@ -85,7 +97,7 @@ pub fn file_report(name: &[u8], several: bool, found: Found, out: &mut [u8; 8448
 }
 
 // The line on an image that scrub mends, refuses or finds too long. No line shows the mended bytes: [] stands for them.
-pub(crate) fn put_outcome(out: &mut [u8], outcome: Outcome) -> usize
+pub(crate) fn put_outcome(out: &mut [u8], outcome: Result<Mending, Rejected>) -> usize
     requires { 50 ≤ length out.old }
     ensures is { Put out.old 0 (lines (line_of (as_outcome outcome []) ∷ [])) result out.new }
     ensures few { result ≤ 50 }
@@ -94,15 +106,14 @@ pub(crate) fn put_outcome(out: &mut [u8], outcome: Outcome) -> usize
     put_line_feed(out, end)
 }
 
-fn put_said(out: &mut [u8], outcome: Outcome) -> usize
+fn put_said(out: &mut [u8], outcome: Result<Mending, Rejected>) -> usize
     requires { 49 ≤ length out.old }
     ensures is { Put out.old 0 (line_of (as_outcome outcome [])) result out.new }
     ensures few { result ≤ 49 }
 {
     match outcome {
-        Outcome::TooLong => put_too_long(out, 0),
-        Outcome::Refused(refusal) => put_refused(out, 0, refusal),
-        Outcome::Mended(mending) => put_stored(out, 0, mending.stored),
+        Ok(mending) => put_stored(out, 0, mending.stored),
+        Err(rejected) => put_rejected(out, 0, rejected),
     }
 }
 
@@ -120,18 +131,16 @@ fn put_uncorrectable_line(out: &mut [u8], at: usize, uncorrectable: usize) -> us
 }
 
 // What the command says of a mended image: scrub's line, and where words remain uncorrectable, how many.
-pub fn mend_report(outcome: Outcome, out: &mut [u8; 128]) -> usize
+pub fn mend_report(outcome: Result<Mending, Rejected>, out: &mut [u8; 128]) -> usize
     ensures is { result ≡ length (mend_text (as_outcome outcome [])) }
     ensures leaves { out.new ≡ sets out.old 0 (mend_text (as_outcome outcome [])) }
     ensures fits { IsPrefixLen result out.new }
 {
     let second = put_outcome(out, outcome);
     match outcome {
-        Outcome::TooLong => second,
-        Outcome::Refused(_) => second,
-        Outcome::Mended(mending) => {
-            let report = mending.report;
-            put_uncorrectable_line(out, second, findings::uncorrectable_in(report))
+        Ok(mending) => {
+            put_uncorrectable_line(out, second, findings::uncorrectable_in(mending.report))
         }
+        Err(_) => second,
     }
 }

@@ -10,7 +10,7 @@ ghost use Rattle.layout.specs.Regions.{as_entry};
 use ecc::ECC_KIND_BIT;
 use layout::{COPIES, FLAG_IS_ECC, Region};
 use plan::Row;
-use put::{put_u16, put_u32};
+use put::put_number;
 
 // The copies from `at` on, of rows whose regions start at word `first_word` and whose planes start at word `plane_word`.
 pub(crate) fn put_directories(
@@ -78,12 +78,12 @@ fn put_entry(out: &mut [u8], at: usize, entry: Region) -> usize
     requires { at + 16 ≤ length out.old }
     ensures { Put out.old at (entry_bytes (as_entry entry)) result out.new }
 {
-    let flags = put_u16(out, at, entry.kind);
-    let offset = put_u16(out, flags, entry.flags);
-    let length = put_u32(out, offset, entry.word_offset);
-    let covers = put_u32(out, length, entry.word_length);
-    let reserved = put_u16(out, covers, entry.covers);
-    put_u16(out, reserved, 0)
+    let flags = put_number(out, at, entry.kind);
+    let offset = put_number(out, flags, entry.flags);
+    let length = put_number(out, offset, entry.word_offset);
+    let covers = put_number(out, length, entry.word_length);
+    let reserved = put_number(out, covers, entry.covers);
+    put_number(out, reserved, 0u16)
 }
 
 fn row_entry(row: Row, offset: u32) -> Region

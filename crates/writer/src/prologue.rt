@@ -6,7 +6,7 @@ ghost use Rattle.put.specs.Put.{Put};
 
 use crc::crc32;
 use layout::{BOM, COPIES, FORMAT_VERSION, MAGIC};
-use put::{put_u16, put_u32};
+use put::put_number;
 
 // The three copies of the prologue, from the front of `out` on. The directory has this loop too: a closure that writes to `out`
 // would need a longer contract than the loop.
@@ -25,11 +25,11 @@ fn put_prologue_start(out: &mut [u8], at: usize, regions: u16, flags: u16) -> us
     requires { at + 12 ≤ length out.old }
     ensures { Put out.old at (prologue_start regions flags) result out.new }
 {
-    let marker = put_u32(out, at, MAGIC);
-    let version = put_u16(out, marker, BOM);
-    let count = put_u16(out, version, FORMAT_VERSION);
-    let behind = put_u16(out, count, regions);
-    put_u16(out, behind, flags)
+    let marker = put_number(out, at, MAGIC);
+    let version = put_number(out, marker, BOM);
+    let count = put_number(out, version, FORMAT_VERSION);
+    let behind = put_number(out, count, regions);
+    put_number(out, behind, flags)
 }
 
 fn put_prologue(out: &mut [u8], at: usize, regions: u16, flags: u16) -> usize
@@ -38,5 +38,5 @@ fn put_prologue(out: &mut [u8], at: usize, regions: u16, flags: u16) -> usize
 {
     let checksum = put_prologue_start(out, at, regions, flags);
     let crc = crc32(&out[at..checksum]);
-    put_u32(out, checksum, crc)
+    put_number(out, checksum, crc)
 }

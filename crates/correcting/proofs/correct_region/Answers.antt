@@ -27,7 +27,7 @@ returns-in_err-run c =
     }
 
 pub correct_run-requires : goal.correct_run-requires
-correct_run-requires c = (c.in_ok-run.ensures.fits, c.requires)
+correct_run-requires c = c.in_ok-run.ensures.fits
 
 pub returns : goal.returns
 returns c =

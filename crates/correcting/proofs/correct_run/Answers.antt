@@ -21,21 +21,21 @@ loop-k-init c =
     let k : r.check + 0 ≡ r.check = omega arith in
     let z : as_report c.default-report.result ≡ no_report = rw (d.0, d.1.0, d.1.1) refl in (
       refl,
-      subst (Room (r.words - 0)) (sym z) (record { words = omega (arith, c.requires.0.words); counts = bounded_none }),
+      subst (Room (r.words - 0)) (sym z) (record { words = omega (arith, c.requires.words); counts = bounded_none }),
       rw (n, w, k),
       ap (λ (t : Report). plus t (report (met g.with_check g.bytes.now (codewords_from (r.words - 0) (r.word + 0) (r.check + 0))))) z
           ∙ rw (n, w, k) (none_plus (report (met g.with_check g.bytes.now (codewords_from r.words r.word r.check)))),
     )
 
 pub overflow_add-run : goal.overflow_add-run
-overflow_add-run c = omega (arith, c.requires.0.words)
+overflow_add-run c = omega (arith, c.requires.words)
 
 pub overflow_add-run-in-loop-k : goal.overflow_add-run-in-loop-k
-overflow_add-run-in-loop-k c = omega (arith, c.requires.0.checks)
+overflow_add-run-in-loop-k c = omega (arith, c.requires.checks)
 
 pub correct_word-status-requires : goal.correct_word-status-requires
 correct_word-status-requires c =
-    (omega (arith, c.requires.0.words), omega (arith, c.requires.0.checks), c.requires.1)
+    (omega (arith, c.requires.words), omega (arith, c.requires.checks))
 
 pub count_word-report-requires : goal.count_word-report-requires
 count_word-report-requires c =

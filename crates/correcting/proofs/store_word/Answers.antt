@@ -7,5 +7,5 @@ use Rattle.correcting.proofs.store_word.Goals as goal
 -- `correcting::store_word` meets its contract. Assumes nothing.
 pub returns : goal.returns
 returns c =
-    let p = c.put_u64 in
+    let p = c.put_number in
     p.ensures.stored ∙ stored_all c.args.part.now (le_bytes 8 c.args.word) (c.requires ∙ sym (length_le_bytes 8 c.args.word))

@@ -5,7 +5,6 @@ use Prim.Native.Nat.{ℕ, ◌+◌, ◌-◌, ◌*◌, ◌/◌, ◌%◌, ◌^◌, 
 use native.Mathlib.Nat.{div-one, mod-lt, div-add-mod'}
 use native.Mathlib.Omega.{arith}
 use native.Mathlib.Numerals.{add-one}
-use borrow.Author.Rules.{rules}
 use lib.Dec.{lit<}
 use lib.Bits.{bit_xor, xor_zero_r}
 use lib.Pow.{shr-shr, field, mod-mod-pow}
@@ -66,20 +65,18 @@ turn w s s' i h e inv =
 
 pub loop-i-init : goal.loop-i-init
 unfolding check_of
-loop-i-init c = (search rules, ap (xor_columns (take 64 columns)) (div-one c.args.«data»))
+loop-i-init c = ap (xor_columns (take 64 columns)) (div-one c.args.«data»)
 
 pub loop-i-preserved : goal.loop-i-preserved
 unfolding columns
 loop-i-preserved c =
-    let d = c.args.«data» in (
-      search rules,
-      turn d c.loop-i.s c.if-byte-i-eq1.s c.loop-i.i (search rules)
-          (elim c.if-byte-i-eq1.branch [
-            | then-byte-i-eq1 w ↦ w.s-is ∙ ap (λ (t : Bool). bit_xor c.loop-i.s (pick t (get_or columns c.loop-i.i 0))) (sym (set d c.loop-i.i w.if-byte-i-eq1.true))
-            | else-byte-i-eq1 w ↦ w.s-is ∙ sym (xor_zero_r c.loop-i.s) ∙ ap (λ (t : Bool). bit_xor c.loop-i.s (pick t (get_or columns c.loop-i.i 0))) (sym (unset d c.loop-i.i w.if-byte-i-eq1.false))
-          ])
-          c.loop-i.invariant.1,
-    )
+    let d = c.args.«data» in
+    turn d c.loop-i.s c.if-byte-i-eq1.s c.loop-i.i c.loop-i-test.true
+    (elim c.if-byte-i-eq1.branch [
+      | then-byte-i-eq1 w ↦ w.s-is ∙ ap (λ (t : Bool). bit_xor c.loop-i.s (pick t (get_or columns c.loop-i.i 0))) (sym (set d c.loop-i.i w.if-byte-i-eq1.true))
+      | else-byte-i-eq1 w ↦ w.s-is ∙ sym (xor_zero_r c.loop-i.s) ∙ ap (λ (t : Bool). bit_xor c.loop-i.s (pick t (get_or columns c.loop-i.i 0))) (sym (unset d c.loop-i.i w.if-byte-i-eq1.false))
+    ])
+    c.loop-i.invariant
 
 pub returns : goal.returns
 unfolding xor_columns columns
@@ -87,4 +84,4 @@ returns c =
     let e : c.loop-i.i ≡ 64 = omega arith in
     sym (xor_zero_r c.loop-i.s)
     ∙ ap (λ (k : ℕ). bit_xor c.loop-i.s (xor_columns (drop k (take 64 columns)) (c.args.«data» / 2 ^ k))) (sym e)
-    ∙ c.loop-i.invariant.1
+    ∙ c.loop-i.invariant

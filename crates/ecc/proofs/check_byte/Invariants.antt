@@ -1,5 +1,5 @@
 use mathlib.Core.Path.{◌≡◌}
-use Prim.Native.Nat.{◌-◌, ◌/◌, ◌^◌, ◌≤◌}
+use Prim.Native.Nat.{◌/◌, ◌^◌}
 use lib.Bits.{bit_xor}
 use lib.ListN.{take, drop}
 use Rattle.bits.specs.Linear.{xor_columns}
@@ -8,7 +8,4 @@ use Rattle.ecc.proofs.check_byte.Given as goal
 
 abbrev pub invariant-loop-i : goal.invariant-loop-i
 invariant-loop-i l =
-    (l.i ≤ 64) × (bit_xor l.s (xor_columns (drop l.i (take 64 columns)) (l.data / 2 ^ l.i)) ≡ check_of l.data)
-
-abbrev pub decreases-loop-i : goal.decreases-loop-i
-decreases-loop-i l = 64 - l.i
+    bit_xor l.s (xor_columns (drop l.i (take 64 columns)) (l.data / 2 ^ l.i)) ≡ check_of l.data

@@ -1,13 +1,12 @@
-use mathlib.Core.Path.{◌≡◌, refl, sym, ap, ◌∙◌, subst}
+use mathlib.Core.Path.{◌≡◌, sym, ap, ◌∙◌, subst}
 use Prim.Native.Nat.{ℕ, zero, suc, ◌+◌, ◌-◌, ◌<◌}
 use native.Mathlib.Omega.{arith}
 use native.Mathlib.Decide.{ℕ_discrete}
-use borrow.Author.Rules.{rules}
 use lib.Bits.{bit_or}
 use lib.ListN.{get_or}
+use Rattle.std.specs.Prelude.{None, Some}
 use Rattle.model.specs.Parity.{columns, find}
 use Rattle.model.proofs.ParityLaw.{find_column, find_none, columns_differ}
-use Rattle.ecc.specs.Answers.{place_in}
 use Rattle.ecc.proofs.column_of.Invariants.{Sought}
 use Rattle.ecc.proofs.column_of.Goals as goal
 use Rattle.ecc.proofs.column_of.Goals.{then-table-i, else-table-i}
@@ -33,32 +32,39 @@ passed s left i h f q =
     earlier k l e z (yes d) = f (ap (λ (n : ℕ). get_or columns n 0) (sym d) ∙ e)
     earlier k l e z (no n) = q.none_yet z k (omega arith) e
 
-ended : (s left i : ℕ) → i ≡ 72 → Sought s left i → 72 - left ≡ place_in (find s columns)
-unfolding columns
-ended s zero i e q = sym (ap place_in (find_none s columns (λ k h. q.none_yet refl k (omega arith))))
-ended s (suc n) i e q =
-    let o = q.one (omega arith) in
-    sym (ap place_in (ap (λ (k : ℕ). find k columns) (sym o.0) ∙ find_column (72 - suc n) (omega (arith, o.1))))
+module _ (s left : ℕ) (q : Sought s left 72) where
+  nowhere : left ≡ 0 → None ≡ find s columns
+  unfolding columns
+  nowhere z = sym (find_none s columns (λ k h. q.none_yet z k h))
+
+  there : (left ≡ 0 → ⊥) → Some (72 - left) ≡ find s columns
+  unfolding columns
+  there n = let o = q.one (omega arith) in sym (ap (λ (k : ℕ). find k columns) (sym o.0) ∙ find_column (72 - left) o.1)
 
 pub loop-i-init : goal.loop-i-init
-loop-i-init c = (omega arith, record { small = omega arith; none_yet = λ z k h. absurd (omega arith); one = λ p. absurd (omega arith) })
+loop-i-init c = record { small = omega arith; none_yet = λ z k h. absurd (omega arith); one = λ p. absurd (omega arith) }
 
 pub loop-i-preserved : goal.loop-i-preserved
 unfolding columns
 loop-i-preserved c =
     let l = c.loop-i in
-    let s = c.args.syndrome in (
-      omega arith,
-      elim c.if-table-i.branch [
-        | then-table-i w ↦ subst (λ (n : ℕ). Sought s n (l.i + 1)) (sym w.left-is) (found s l.left l.i (search rules) w.if-table-i.true l.invariant.1)
-        | else-table-i w ↦ subst (λ (n : ℕ). Sought s n (l.i + 1)) (sym w.left-is) (passed s l.left l.i (search rules) w.if-table-i.false l.invariant.1)
-      ],
-    )
+    let s = c.args.syndrome in
+    elim c.if-table-i.branch [
+      | then-table-i w ↦ subst (λ (n : ℕ). Sought s n (l.i + 1)) (sym w.left-is) (found s l.left l.i c.loop-i-test.true w.if-table-i.true l.invariant)
+      | else-table-i w ↦ subst (λ (n : ℕ). Sought s n (l.i + 1)) (sym w.left-is) (passed s l.left l.i c.loop-i-test.true w.if-table-i.false l.invariant)
+    ]
+
+pub returns-then-left-eq0 : goal.returns-then-left-eq0
+returns-then-left-eq0 c =
+    let s = c.args.syndrome in
+    let l = c.loop-i in
+    let e : l.i ≡ 72 = omega arith in nowhere s l.left (subst (Sought s l.left) e l.invariant) c.if-left-eq0.true
 
 pub returns : goal.returns
 returns c =
+    let s = c.args.syndrome in
     let l = c.loop-i in
-    (ended c.args.syndrome l.left l.i (omega arith) l.invariant.1, omega arith)
+    let e : l.i ≡ 72 = omega arith in there s l.left (subst (Sought s l.left) e l.invariant) c.if-left-eq0.false
 
 pub overflow_sub-result : goal.overflow_sub-result
-overflow_sub-result c = omega (arith, c.loop-i.invariant.1.small)
+overflow_sub-result c = omega (arith, c.loop-i.invariant.small)

@@ -12,7 +12,4 @@ pub record Sought (s left i : ℕ) : Type 0 where
   pub one : 0 < left → (get_or columns (72 - left) 0 ≡ s) × (72 - left < i)
 
 abbrev pub invariant-loop-i : goal.invariant-loop-i
-invariant-loop-i l = (l.i ≤ 72) × Sought l.syndrome l.left l.i
-
-abbrev pub decreases-loop-i : goal.decreases-loop-i
-decreases-loop-i l = 72 - l.i
+invariant-loop-i l = Sought l.syndrome l.left l.i

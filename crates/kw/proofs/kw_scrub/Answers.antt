@@ -1,6 +1,5 @@
 use mathlib.Core.Path.{refl, ap, ◌∙◌}
 use Rattle.kw.specs.Numbers.{report_numbers}
-use borrow.Author.Rules.{rules}
 use Rattle.kw.proofs.kw_scrub.Goals as goal
 
 -- `kw::kw_scrub` meets its contract. Assumes nothing.

@@ -1,22 +1,19 @@
-use mathlib.Core.Path.{◌∙◌}
+use mathlib.Core.Path.{ap, ◌∙◌}
+use Rattle.error.proofs.PassedOn.{err_is}
+use Rattle.overlap.specs.declared.Misplaced.TheVariants.{Refused}
+use Rattle.overlap.specs.Answers.{as_placement}
 use Rattle.overlap.proofs.AnswersLaw.{parse_refused, parse_accepted, few}
 use Rattle.overlap.proofs.check_placement.Goals as goal
 
 -- `overlap::check_placement` meets its contract. Assumes nothing.
+pub returns-in_err-header : goal.returns-in_err-header
+returns-in_err-header c =
+    let e = c.in_err-header.field-0.0 in
+    ap as_placement (err_is _ (Refused e) c.from_residual.ensures.1)
+    ∙ parse_refused c.args.bytes.now c.parse.result c.parse.ensures e c.in_err-header.was
+
 pub check_regions-requires : goal.check_regions-requires
-check_regions-requires c =
-    let r = c.parse in
-    let x = c.args.bytes.now in
-    few x r.result r.ensures c.in-Parsed.header c.in-Parsed.is
+check_regions-requires c = few c.args.bytes.now c.parse.result c.parse.ensures c.in_ok-header.header c.in_ok-header.was
 
-pub returns-in-Refused : goal.returns-in-Refused
-returns-in-Refused c =
-    let r = c.parse in
-    let x = c.args.bytes.now in
-    parse_refused x r.result r.ensures c.in-Refused.refusal c.in-Refused.is
-
-pub returns-in-Parsed : goal.returns-in-Parsed
-returns-in-Parsed c =
-    let r = c.parse in
-    let x = c.args.bytes.now in
-    c.check_regions.ensures ∙ parse_accepted x r.result r.ensures c.in-Parsed.header c.in-Parsed.is
+pub returns : goal.returns
+returns c = c.check_regions.ensures ∙ parse_accepted c.args.bytes.now c.parse.result c.parse.ensures c.in_ok-header.header c.in_ok-header.was

@@ -1,25 +1,18 @@
-use mathlib.Core.Path.{refl}
-use native.Mathlib.Omega.{arith}
-use Rattle.put.proofs.PutLaw.{kept_length, none_put, byte_room, byte_put, all_put}
+use Rattle.std.proofs.Common.{arith, ap, ◌∙◌, List, ℕ, ◌+◌, ◌++◌, length, take, drop, ◌≡◌}
+use Rattle.std.proofs.lemmas.List.Edits.{paste_more}
+use lib.Seq.{paste, take-length}
+use Rattle.put.proofs.PutLaw.{replaced}
 use Rattle.put.proofs.put_bytes.Goals as goal
 
-pub loop-i-init : goal.loop-i-init
-loop-i-init c = none_put _ _ _ c.requires
-
-pub overflow_add-out : goal.overflow_add-out
-overflow_add-out c = omega (arith, byte_room _ _ c.loop-i.invariant c.loop-i-test.true)
-
-pub bounds-out-at : goal.bounds-out-at
-bounds-out-at c = omega (arith, byte_room _ _ c.loop-i.invariant c.loop-i-test.true)
-
 pub loop-i-preserved : goal.loop-i-preserved
-loop-i-preserved c = byte_put _ _ c.loop-i.invariant _ c.loop-i-test.true refl
-
-pub overflow_add-result : goal.overflow_add-result
-overflow_add-result c = omega (arith, c.loop-i.invariant.going.room)
-
-pub shape_of-out : goal.shape_of-out
-shape_of-out c = kept_length _ _ _ c.loop-i.invariant.going
+loop-i-preserved c =
+    let a = c.args in
+    let l = c.loop-i in
+    rw l.invariant (paste_more a.out.now a.at a.bytes.now l.i 0 (omega arith) (omega arith))
 
 pub returns : goal.returns
-returns c = all_put _ _ c.loop-i.invariant (omega arith)
+returns c =
+    let a = c.args in
+    let l = c.loop-i in
+    let n : l.i ≡ length a.bytes.now = omega arith in
+    replaced a.out.now a.bytes.now a.at c.requires (l.invariant ∙ ap (paste a.out.now a.at a.bytes.now) n ∙ ap (λ (x : List ℕ). take a.at a.out.now ++ x ++ drop (a.at + length a.bytes.now) a.out.now) (take-length a.bytes.now))

@@ -1,27 +1,14 @@
-use mathlib.Core.Path.{sym}
-use Prim.Native.Nat.{ℕ}
-use native.Mathlib.Omega.{arith}
-use lib.ListN.{length-replicate, get_or-replicate}
-use Rattle.put.proofs.PutLaw.{kept_length, none_put, byte_room, byte_put, all_put}
+use Rattle.std.proofs.Common.{arith, ◌≡◌, ap, ◌+◌, ◌-◌, length, take, drop, length-take, length-drop, replicate}
+use Rattle.std.proofs.lemmas.List.{length-replicate}
+use borrow.Rule.Slice.PartMut.{put_mid}
+use Rattle.put.proofs.PutLaw.{came_back}
 use Rattle.put.proofs.put_zeros.Goals as goal
 
-pub loop-i-init : goal.loop-i-init
-loop-i-init c = none_put _ _ _ (omega (arith, c.requires, length-replicate {A = ℕ} c.args.n 0))
-
-pub overflow_add-out : goal.overflow_add-out
-overflow_add-out c = omega (arith, byte_room _ _ c.loop-i.invariant (omega (arith, length-replicate {A = ℕ} c.args.n 0)))
-
-pub bounds-out-at : goal.bounds-out-at
-bounds-out-at c = byte_room _ _ c.loop-i.invariant (omega (arith, length-replicate {A = ℕ} c.args.n 0))
-
-pub loop-i-preserved : goal.loop-i-preserved
-loop-i-preserved c = byte_put _ _ c.loop-i.invariant _ (omega (arith, length-replicate {A = ℕ} c.args.n 0)) (sym (get_or-replicate c.args.n c.loop-i.i 0 0 (omega arith)))
-
-pub overflow_add-result : goal.overflow_add-result
-overflow_add-result c = omega (arith, c.loop-i.invariant.going.room, kept_length _ _ _ c.loop-i.invariant.going)
-
-pub shape_of-out : goal.shape_of-out
-shape_of-out c = kept_length _ _ _ c.loop-i.invariant.going
-
 pub returns : goal.returns
-returns c = all_put _ _ c.loop-i.invariant (omega (arith, length-replicate {A = ℕ} c.args.n 0))
+returns c =
+    let a = c.args in
+    let part = take (a.at + a.n - a.at) (drop a.at a.out.now) in
+    let n : length part ≡ a.n = omega (arith, length-take (a.at + a.n - a.at) (drop a.at a.out.now), length-drop a.at a.out.now) in
+    let all : c.fill.new.self ≡ replicate (length part) 0 = c.fill.ensures.after (λ y e. e) in
+    let zeros = rw n at all in
+    came_back _ _ _ _ (length-replicate a.n 0) c.requires (ap (put_mid a.at (a.at + a.n - a.at) a.out.now) zeros)

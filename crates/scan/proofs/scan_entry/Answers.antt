@@ -22,6 +22,3 @@ returns c =
       is = ap Some c.scan_run.ensures ∙ scan_run_is x _ r k;
       few = omega (arith, ap (λ (q : Report). q.words) c.scan_run.ensures, run_words x r, k.few);
     }
-
-pub scan_run-requires : goal.scan_run-requires
-scan_run-requires c = (c.in_ok-run.ensures.fits, c.requires)

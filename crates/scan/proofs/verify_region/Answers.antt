@@ -13,6 +13,3 @@ returns-in_err-run c = ap as_scan c.from_residual.ensures ∙ sym (no_scan c.arg
 pub returns : goal.returns
 unfolding scan_region
 returns c = ap Some c.scan_run.ensures ∙ scan_run_is c.args.bytes.now _ c.in_ok-run.run' c.in_ok-run.ensures
-
-pub scan_run-requires : goal.scan_run-requires
-scan_run-requires c = (c.in_ok-run.ensures.fits, c.fill_check_table.ensures)

@@ -1,5 +1,7 @@
 use mathlib.Core.Path.{◌≡◌}
+use mathlib.Core.Bool.{false}
 use mathlib.Core.List.{List}
+use Rattle.std.specs.Prelude.{Option}
 use Prim.Native.Nat.{ℕ, ◌-◌, ◌*◌, ◌^◌, ◌≤◌}
 use lib.ListN.{length}
 use Rattle.model.specs.Refusals.{fine}
@@ -8,7 +10,9 @@ use Rattle.model.specs.Parse.{parse_verdict}
 use Rattle.model.specs.Scrub.{State, Scrubbed, scrub_from, reported}
 use Rattle.model.specs.Scrub as model
 use Rattle.view.specs.declared.header.Header.{Header}
-use Rattle.scan.specs.Tally.{Totals, as_totals, Room}
+use Rattle.model.specs.Scan.{Report}
+use Rattle.scan.specs.Answers.{as_scan}
+use Rattle.scan.specs.Tally.{or_zeros}
 use Rattle.scrubbing.specs.Stands.{Stands}
 use Rattle.scrubbing.proofs.scrub.Given as goal
 
@@ -20,13 +24,10 @@ pub record Checked (x : List ℕ) (h : Header) : Type 0 where
   pub count_now : h.region_count ≡ count x
 
 -- the n - i regions that are left take a state that the counts and the image stand for to what is asked of x₀
-pub record Goes (x₀ : List ℕ) (n i : ℕ) (t : Totals) (x : List ℕ) : Type 0 where
+pub record Goes (x₀ : List ℕ) (n i : ℕ) (o : Option Report) (x : List ℕ) : Type 0 where
   pub state : State
-  pub stands : Stands t x state
+  pub stands : Stands o x state
   pub ends : scrub_from (n - i) i state ≡ model.scrub x₀
 
 abbrev pub invariant-loop-i : goal.invariant-loop-i
-invariant-loop-i l = (l.i ≤ l.first.region_count) × (length l.bytes ≡ length l.initial.bytes) × (l.tally.report.words ≤ l.i * 2 ^ 32) × Room 0 (as_totals l.tally).report × Goes l.initial.bytes l.first.region_count l.i (as_totals l.tally) l.bytes × (l.written ≡ l.tally.report.corrected → Checked l.bytes l.header)
-
-abbrev pub decreases-loop-i : goal.decreases-loop-i
-decreases-loop-i l = l.first.region_count - l.i
+invariant-loop-i l = (length l.bytes ≡ length l.initial.bytes) × ((or_zeros (as_scan l.total)).words ≤ l.i * 2 ^ 32) × Goes l.initial.bytes l.i-end l.i (as_scan l.total) l.bytes × (l.written ≡ false → Checked l.bytes l.header)

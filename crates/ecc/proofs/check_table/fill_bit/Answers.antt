@@ -14,7 +14,7 @@ loop-j-init c =
     let g = c.args in
     let e = bit_count g.i c.requires.1 in
     let m : 256 * g.k + 2 ^ g.i + 0 ≡ 256 * g.k + 2 ^ g.i = omega arith in
-    (e, omega (arith, e, bit_fits g.i c.requires.1), omega arith, rw (e, m) c.requires.3)
+    (e, omega (arith, e, bit_fits g.i c.requires.1), rw (e, m) c.requires.3)
 
 pub loop-j-preserved : goal.loop-j-preserved
 loop-j-preserved c =
@@ -24,12 +24,11 @@ loop-j-preserved c =
     let n : 256 * g.k + 2 ^ g.i + (l.j + 1) ≡ 256 * g.k + 2 ^ g.i + l.j + 1 = omega arith in (
       l.invariant.0,
       l.invariant.1,
-      omega arith,
       rw (l.invariant.0, n)
           (put (256 * g.k + 2 ^ g.i + l.j) (bit_xor (at t (256 * g.k + l.j)) g.column) t (omega arith)
-          (ap (λ (v : ℕ). bit_xor v g.column) (l.invariant.3.right (256 * g.k + l.j) (omega arith)) ∙ ap (bit_xor (entry_at (256 * g.k + l.j))) c.requires.2
+          (ap (λ (v : ℕ). bit_xor v g.column) (l.invariant.2.right (256 * g.k + l.j) (omega arith)) ∙ ap (bit_xor (entry_at (256 * g.k + l.j))) c.requires.2
           ∙ sym (twice g.k g.i l.j c.requires.0 c.requires.1 (omega arith)))
-          (rw l.invariant.0 at l.invariant.3)),
+          (rw l.invariant.0 at l.invariant.2)),
     )
 
 pub returns : goal.returns
@@ -37,25 +36,4 @@ returns c =
     let l = c.loop-j in
     let g = c.args in
     let n : 256 * g.k + (1 * 2 ^ g.i) % 2 ^ 64 + l.j ≡ 256 * g.k + 2 ^ (g.i + 1) = omega (arith, pow-suc 2 g.i, ap (λ (i : ℕ). 2 ^ i) (add-one g.i)) in
-    subst (λ (m : ℕ). Filled m l.table) n l.invariant.3
-
-pub overflow_add-table : goal.overflow_add-table
-overflow_add-table c = omega arith
-
-pub bounds-table-first : goal.bounds-table-first
-bounds-table-first c = omega arith
-
-pub overflow_add-table-in-loop-j : goal.overflow_add-table-in-loop-j
-overflow_add-table-in-loop-j c = omega arith
-
-pub overflow_add-table-in-loop-j-2 : goal.overflow_add-table-in-loop-j-2
-overflow_add-table-in-loop-j-2 c = omega arith
-
-pub bounds-table-first-in-loop-j : goal.bounds-table-first-in-loop-j
-bounds-table-first-in-loop-j c = omega arith
-
-pub overflow_add-j : goal.overflow_add-j
-overflow_add-j c = omega arith
-
-pub loop-j-smaller : goal.loop-j-smaller
-loop-j-smaller c = omega arith
+    subst (λ (m : ℕ). Filled m l.table) n l.invariant.2

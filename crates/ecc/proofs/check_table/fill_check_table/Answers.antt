@@ -7,23 +7,14 @@ use Rattle.ecc.proofs.CheckTableLaw.{empty, all_filled}
 use Rattle.ecc.proofs.check_table.fill_check_table.Goals as goal
 
 pub loop-k-init : goal.loop-k-init
-loop-k-init c = (omega arith, empty _ refl)
+loop-k-init c = empty _ refl
 
 pub fill_place-requires : goal.fill_place-requires
 unfolding columns
-fill_place-requires c = (omega arith, refl, c.loop-k.invariant.1)
-
-pub loop-k-preserved : goal.loop-k-preserved
-loop-k-preserved c = (omega arith, c.fill_place.ensures)
+fill_place-requires c = (omega arith, refl, c.loop-k.invariant)
 
 pub returns : goal.returns
 returns c =
     let l = c.loop-k in
     let e : 256 * l.k ≡ 2048 = omega arith in
-    all_filled l.table (subst (λ (n : ℕ). Filled n l.table) e l.invariant.1)
-
-pub overflow_add-k : goal.overflow_add-k
-overflow_add-k c = omega arith
-
-pub loop-k-smaller : goal.loop-k-smaller
-loop-k-smaller c = omega arith
+    all_filled l.table (subst (λ (n : ℕ). Filled n l.table) e l.invariant)

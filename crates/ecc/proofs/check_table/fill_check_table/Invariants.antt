@@ -1,10 +1,7 @@
-use Prim.Native.Nat.{◌-◌, ◌*◌, ◌≤◌}
+use Prim.Native.Nat.{◌*◌}
 use Rattle.ecc.specs.CheckTable.{Filled}
 use Rattle.ecc.proofs.check_table.fill_check_table.Given as goal
 
 -- `ecc::check_table::fill_check_table` meets its contract. The invariant: the places passed are filled. Assumes nothing.
 abbrev pub invariant-loop-k : goal.invariant-loop-k
-invariant-loop-k l = (l.k ≤ 8) × Filled (256 * l.k) l.table
-
-abbrev pub decreases-loop-k : goal.decreases-loop-k
-decreases-loop-k l = 8 - l.k
+invariant-loop-k l = Filled (256 * l.k) l.table

@@ -9,16 +9,12 @@ use Rattle.ecc.proofs.check_table.fill_place.Goals as goal
 
 pub loop-i-init : goal.loop-i-init
 loop-i-init c =
-    let g = c.args in
-    (omega arith, put (256 * g.k) 0 g.table.now (omega arith) (first g.k) c.requires.2)
+    let g = c.args in put (256 * g.k) 0 g.table.now (omega arith) (first g.k) c.requires.2
 
 pub fill_bit-requires : goal.fill_bit-requires
 fill_bit-requires c =
     let g = c.args in
-    (c.requires.0, omega arith, ap (λ (cs : List ℕ). at cs (8 * g.k + c.loop-i.i)) c.requires.1, c.loop-i.invariant.1)
-
-pub loop-i-preserved : goal.loop-i-preserved
-loop-i-preserved c = (omega arith, c.fill_bit.ensures)
+    (c.requires.0, omega arith, ap (λ (cs : List ℕ). at cs (8 * g.k + c.loop-i.i)) c.requires.1, c.loop-i.invariant)
 
 pub returns : goal.returns
 returns c =
@@ -26,25 +22,4 @@ returns c =
     let k = c.args.k in
     let e : l.i ≡ 8 = omega arith in
     let n : 256 * k + 256 ≡ 256 * (k + 1) = omega arith in
-    subst (λ (m : ℕ). Filled m l.table) n (subst (λ (i : ℕ). Filled (256 * k + 2 ^ i) l.table) e l.invariant.1)
-
-pub overflow_mul-table : goal.overflow_mul-table
-overflow_mul-table c = omega arith
-
-pub bounds-table-k : goal.bounds-table-k
-bounds-table-k c = omega arith
-
-pub overflow_mul-k : goal.overflow_mul-k
-overflow_mul-k c = omega arith
-
-pub overflow_add-k : goal.overflow_add-k
-overflow_add-k c = omega arith
-
-pub bounds-columns-k : goal.bounds-columns-k
-bounds-columns-k c = omega arith
-
-pub overflow_add-i : goal.overflow_add-i
-overflow_add-i c = omega arith
-
-pub loop-i-smaller : goal.loop-i-smaller
-loop-i-smaller c = omega arith
+    subst (λ (m : ℕ). Filled m l.table) n (subst (λ (i : ℕ). Filled (256 * k + 2 ^ i) l.table) e l.invariant)

@@ -1,10 +1,7 @@
-use Prim.Native.Nat.{◌+◌, ◌-◌, ◌*◌, ◌^◌, ◌≤◌}
+use Prim.Native.Nat.{◌+◌, ◌*◌, ◌^◌}
 use Rattle.ecc.specs.CheckTable.{Filled}
 use Rattle.ecc.proofs.check_table.fill_place.Given as goal
 
 -- `ecc::check_table::fill_place` meets its contract. The invariant: the table is filled up to byte 2 ^ i of the place. Assumes nothing.
 abbrev pub invariant-loop-i : goal.invariant-loop-i
-invariant-loop-i l = (l.i ≤ 8) × Filled (256 * l.k + 2 ^ l.i) l.table
-
-abbrev pub decreases-loop-i : goal.decreases-loop-i
-decreases-loop-i l = 8 - l.i
+invariant-loop-i l = Filled (256 * l.k + 2 ^ l.i) l.table

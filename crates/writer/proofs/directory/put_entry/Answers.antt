@@ -9,25 +9,25 @@ use Rattle.put.proofs.PutLaw.{Going, begin, go_on, last}
 use Rattle.writer.proofs.directory.put_entry.Goals as goal
 
 -- `writer::directory::put_entry` meets its contract. Assumes nothing.
-pub put_u16-offset-requires : goal.put_u16-offset-requires
+pub put_number-offset-requires : goal.put_number-offset-requires
 unfolding le_bytes
-put_u16-offset-requires c = omega arith
+put_number-offset-requires c = omega arith
 
-pub put_u32-length-requires : goal.put_u32-length-requires
+pub put_number-length-requires : goal.put_number-length-requires
 unfolding le_bytes
-put_u32-length-requires c = omega arith
+put_number-length-requires c = omega arith
 
-pub put_u32-covers-requires : goal.put_u32-covers-requires
+pub put_number-covers-requires : goal.put_number-covers-requires
 unfolding le_bytes
-put_u32-covers-requires c = omega arith
+put_number-covers-requires c = omega arith
 
-pub put_u16-reserved-requires : goal.put_u16-reserved-requires
+pub put_number-reserved-requires : goal.put_number-reserved-requires
 unfolding le_bytes
-put_u16-reserved-requires c = omega arith
+put_number-reserved-requires c = omega arith
 
-pub put_u16-requires : goal.put_u16-requires
+pub put_number-requires : goal.put_number-requires
 unfolding le_bytes
-put_u16-requires c = omega arith
+put_number-requires c = omega arith
 
 pub returns : goal.returns
 unfolding entry_bytes le_bytes
@@ -40,9 +40,9 @@ returns c =
     let r2 : List ℕ = le_bytes 4 e.offset ++ r3 in
     let r1 : List ℕ = le_bytes 2 e.flags ++ r2 in
     let g0 : Going g.out.now g.at (entry_bytes e) g.out.now g.at (le_bytes 2 e.kind ++ r1) = begin g.out.now g.at (entry_bytes e) c.requires in
-    let g1 = go_on _ _ (le_bytes 2 e.kind) r1 g0 c.put_u16-flags.ensures in
-    let g2 = go_on _ _ (le_bytes 2 e.flags) r2 g1 c.put_u16-offset.ensures in
-    let g3 = go_on _ _ (le_bytes 4 e.offset) r3 g2 c.put_u32-length.ensures in
-    let g4 = go_on _ _ (le_bytes 4 e.words) r4 g3 c.put_u32-covers.ensures in
-    let g5 = go_on _ _ (le_bytes 2 e.covers) r5 g4 c.put_u16-reserved.ensures in
-    last _ _ r5 g5 c.put_u16.ensures
+    let g1 = go_on _ _ (le_bytes 2 e.kind) r1 g0 c.put_number-flags.ensures in
+    let g2 = go_on _ _ (le_bytes 2 e.flags) r2 g1 c.put_number-offset.ensures in
+    let g3 = go_on _ _ (le_bytes 4 e.offset) r3 g2 c.put_number-length.ensures in
+    let g4 = go_on _ _ (le_bytes 4 e.words) r4 g3 c.put_number-covers.ensures in
+    let g5 = go_on _ _ (le_bytes 2 e.covers) r5 g4 c.put_number-reserved.ensures in
+    last _ _ r5 g5 c.put_number.ensures

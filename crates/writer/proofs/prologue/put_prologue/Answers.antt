@@ -16,9 +16,9 @@ pub slice_bounds-crc32-end : goal.slice_bounds-crc32-end
 unfolding prologue_start le_bytes
 slice_bounds-crc32-end c = omega (arith, c.put_prologue_start-checksum.ensures)
 
-pub put_u32-requires : goal.put_u32-requires
+pub put_number-requires : goal.put_number-requires
 unfolding prologue_start le_bytes
-put_u32-requires c = omega (arith, c.put_prologue_start-checksum.ensures)
+put_number-requires c = omega (arith, c.put_prologue_start-checksum.ensures)
 
 pub returns : goal.returns
 unfolding prologue_bytes
@@ -30,4 +30,4 @@ returns c =
     let g0 : Going o p (prologue_bytes c.args.regions c.args.flags) o p (s ++ le_bytes 4 (crc32 s)) = begin o p (s ++ le_bytes 4 (crc32 s)) (omega (arith, c.requires, length-append s (le_bytes 4 (crc32 s)), length_le_bytes 4 (crc32 s))) in
     let g1 = go_on _ _ s (le_bytes 4 (crc32 s)) g0 c.put_prologue_start-checksum.ensures in
     let e : c.crc32-crc.result ≡ crc32 s = c.crc32-crc.ensures.value ∙ ap crc32 (put_read o p s c.put_prologue_start-checksum.ensures (omega (arith, c.requires))) in
-    last _ _ (le_bytes 4 (crc32 s)) g1 (subst (λ (k : ℕ). Put c.put_prologue_start-checksum.new.out c.put_prologue_start-checksum.result (le_bytes 4 k) c.put_u32.result c.put_u32.new.out) e c.put_u32.ensures)
+    last _ _ (le_bytes 4 (crc32 s)) g1 (subst (λ (k : ℕ). Put c.put_prologue_start-checksum.new.out c.put_prologue_start-checksum.result (le_bytes 4 k) c.put_number.result c.put_number.new.out) e c.put_number.ensures)
