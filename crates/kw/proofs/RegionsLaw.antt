@@ -1,7 +1,7 @@
 -- What a lookup hands out has its entry's numbers, and no entry is found past the last. Assumes nothing.
 use mathlib.Core.Path.{◌≡◌, refl, ap, ◌∙◌}
 use mathlib.Core.List.{List}
-use Rattle.std.specs.Prelude.{Option, None, Some}
+use Rattle.std.specs.Prelude.{Option, None, Some, Result, Ok}
 use Prim.Native.Nat.{ℕ, ◌≤◌}
 use native.Mathlib.Omega.{arith}
 use Rattle.model.specs.Layout.{Entry, count}
@@ -9,7 +9,6 @@ use Rattle.model.specs.Parse.{Parsed, parse}
 use Rattle.model.specs.Views.{entries_for, find_region, region_at}
 use Rattle.model.proofs.WalkLaw.{nth_past}
 use Rattle.view.specs.declared.header.Header.{Header}
-use Rattle.std.specs.Prelude.{Result, Ok}
 use Rattle.error.specs.declared.Refusal.{Refusal}
 use Rattle.view.specs.Answers.{as_parsed, found_as}
 use Rattle.view.proofs.AnswersLaw.{parsed_count}

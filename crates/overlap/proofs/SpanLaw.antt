@@ -2,7 +2,7 @@
 use mathlib.Core.Path.{◌≡◌, refl, sym, ap, ap₂, ◌∙◌}
 use mathlib.Core.Bool.{Bool, true, false, not, ◌&&◌, ◌||◌, cond, or-true}
 use mathlib.Core.List.{List}
-use Rattle.std.specs.Prelude.{Option, None, Some}
+use Rattle.std.specs.Prelude.{Option, None, Some, Ok}
 use Prim.Native.Nat.{ℕ, zero, suc, ◌+◌, ◌-◌, ◌*◌, ◌^◌, ◌≤◌, ◌<◌, max}
 use native.Mathlib.Nat.{add-zero, le-max_left, le-max_right}
 use native.Mathlib.Decide.{dec_lt, ℕ_discrete}
@@ -23,7 +23,6 @@ use Rattle.lemmas.specs.Steps.{is_some}
 use Rattle.model.proofs.WalkLaw.{nth_there}
 use Rattle.overlap.proofs.ApartLaw.{empty_right, starts_past, meets_else, lies_behind}
 use Rattle.overlap.specs.declared.spans.SpanTable.{SpanTable}
-use Rattle.std.specs.Prelude.{Ok}
 use mir.Val.{bool_byte}
 use Rattle.overlap.specs.Answers.{overlap_as}
 use Rattle.overlap.specs.Spans.{last_word, overlaps_from, SpanOf, Holds}

@@ -13,7 +13,7 @@ use mathlib.Core.Path.{◌≡◌, ap₂}
 use mathlib.Core.Bool.{Bool, true, false}
 use mathlib.Core.List.{List, [], ◌∷◌, ◌++◌}
 use mathlib.Core.Logic.{◌⊎◌}
-use Rattle.std.specs.Prelude.{Option}
+use Rattle.std.specs.Prelude.{Option, None, Result, Ok, Err}
 use Prim.Native.Nat.{ℕ, ◌+◌, ◌*◌, ◌/◌, ◌^◌, ◌≤◌, ◌<◌}
 use lib.Bits.{bit_xor}
 use lib.Dec.{ltb}
@@ -43,13 +43,8 @@ use Rattle.lemmas.proofs.PlacementLaw as placed
 use Rattle.error.specs.Refused.{number_of, detail_of}
 use Rattle.error.specs.declared.Refusal.{Refusal}
 use Rattle.error.proofs.OneAnswer.{one_refusal}
-use Rattle.scan.specs.declared.ScanResult.{ScanResult}
-use Rattle.scan.specs.declared.ScanResult.TheVariants as scan-says
 use Rattle.plan.specs.declared.rows.Row.{Row}
 use Rattle.plan.specs.Rows.{as_plan}
-use Rattle.writer.specs.declared.image.WriteResult.{WriteResult}
-use Rattle.writer.specs.declared.image.WriteResult.TheVariants as write-says
-use Rattle.mending.specs.declared.MendResult.TheVariants as mend-says
 use Rattle.theorems.specs.Damage.{Protected, bits_off, Damaged, Touched, Uncorrectable, uncorrected, ReadsBack}
 use Rattle.theorems.specs.Runs.{Writes, MendsTo, ScrubsTo}
 use Rattle.theorems.specs.ScrubSteps.{Changes}
@@ -64,6 +59,8 @@ use Rattle.theorems.proofs.Settles.{settles_down, fresh, scrub_same}
 use Rattle.theorems.proofs.Touches.{only_touched}
 use Rattle.theorems.proofs.ReadsBack.{read_back}
 use Rattle.theorems.proofs.Sample.{sample_rows, sample_payload, sample, sample_written, every_hit, hit_allowed, hit_header, hit_words, two_bits, two_bits_excluded, two_copies, two_copies_excluded}
+use Rattle.ecc.specs.declared.EccReport.{EccReport}
+use Rattle.mending.specs.declared.Mending.{Mending}
 
 -- ==== Demand 1. "Every input gets an answer."
 -- There is nothing to state: a function that does not end, or that some input can stop, is not built. No public function has a `requires` but the
@@ -74,19 +71,19 @@ pub refused_by_number : (a b : Refusal) → number_of a ≡ number_of b → deta
 refused_by_number a b n d = one_refusal a b (ap₂ refuse n d)
 
 -- "Every byte of a lent buffer after a refusal is prescribed." A refused mend leaves every byte as it was.
-pub refused_mend_lem : (x : List ℕ) (r : Refusal) (y : List ℕ) → MendsTo x (mend-says.Refused r) y → y ≡ x
+pub refused_mend_lem : (x : List ℕ) (r : Refusal) (y : List ℕ) → MendsTo x (Err r) y → y ≡ x
 refused_mend_lem = run.mend_refused
 
 -- A refused plan leaves every byte of the output as it was.
-pub refused_plan_lem : (rows : List Row) (payload out : List ℕ) (r : Refusal) (after : List ℕ) → Writes rows payload out (write-says.Refused r) after → after ≡ out
+pub refused_plan_lem : (rows : List Row) (payload out : List ℕ) (r : Refusal) (after : List ℕ) → Writes rows payload out (Err r) after → after ≡ out
 refused_plan_lem = run.plan_refused
 
 -- A scrub of an image that parse refuses says nothing and leaves every byte as it was.
-pub refused_scrub : (x : List ℕ) (n d : ℕ) → parse x ≡ refused n d → (r : ScanResult) (y : List ℕ) → ScrubsTo x r y → (r ≡ scan-says.Nothing) × (y ≡ x)
+pub refused_scrub : (x : List ℕ) (n d : ℕ) → parse x ≡ refused n d → (r : Option EccReport) (y : List ℕ) → ScrubsTo x r y → (r ≡ None) × (y ≡ x)
 refused_scrub = run.scrub_refused
 
 -- "Only the Rust's own scrub may refuse after writing": where scrub says nothing, every byte is as it was, or the bytes that it left are refused by parse.
-pub scrub_exception : (x : List ℕ) (y : List ℕ) → ScrubsTo x scan-says.Nothing y → (y ≡ x) ⊎ ((n : ℕ) × (d : ℕ) × (parse y ≡ refused n d))
+pub scrub_exception : (x : List ℕ) (y : List ℕ) → ScrubsTo x None y → (y ≡ x) ⊎ ((n : ℕ) × (d : ℕ) × (parse y ≡ refused n d))
 scrub_exception = run.scrub_says_nothing
 
 -- ==== Demand 2. "Reader and scrub equal the Rust on every byte string, by runs against it": host/compare, and tests/answers where the Rust is not at hand.
@@ -154,15 +151,15 @@ pub placement_named : (x : List ℕ) → TrueOf x (placement x)
 placement_named x = placed.placement_named x
 
 -- "Writer equals the format's rules." A plan that meets no refusal's condition is written: the image at the front of `out`, every byte behind it as it was.
-pub writes_exactly : (rows : List Row) (payload out : List ℕ) (r : WriteResult) (after : List ℕ) → Writes rows payload out r after
+pub writes_exactly : (rows : List Row) (payload out : List ℕ) (r : Result ℕ Refusal) (after : List ℕ) → Writes rows payload out r after
     → plan_verdict (as_plan rows) payload (length out) ≡ fine
-    → (r ≡ write-says.Written (image_length (as_plan rows))) × (after ≡ plan_image (as_plan rows) payload ++ drop (image_length (as_plan rows)) out)
+    → (r ≡ Ok (image_length (as_plan rows))) × (after ≡ plan_image (as_plan rows) payload ++ drop (image_length (as_plan rows)) out)
 writes_exactly = run.plan_written
 
 -- Any other is refused with the number and the detail of the first condition that it meets, and every byte of `out` is as it was.
-pub refuses_plan_exactly : (rows : List Row) (payload out : List ℕ) (r : WriteResult) (after : List ℕ) → Writes rows payload out r after
+pub refuses_plan_exactly : (rows : List Row) (payload out : List ℕ) (r : Result ℕ Refusal) (after : List ℕ) → Writes rows payload out r after
     → (n d : ℕ) → plan_verdict (as_plan rows) payload (length out) ≡ refuse n d
-    → ((s : Refusal) × (r ≡ write-says.Refused s) × (number_of s ≡ n) × (detail_of s ≡ d)) × (after ≡ out)
+    → ((s : Refusal) × (r ≡ Err s) × (number_of s ≡ n) × (detail_of s ≡ d)) × (after ≡ out)
 refuses_plan_exactly = run.plan_refuses
 
 -- What it makes reads back: it parses, each row's region hands back its payload, and the scan is clean.

@@ -18,26 +18,26 @@ use Rattle.model.specs.Mend.{LaidApart, FirstMisplaced, MendRule, changed, whole
 use Rattle.error.specs.declared.Refusal.TheVariants.{OverlappingRegions}
 use Rattle.mending.proofs.OneAnswer.{one_mend}
 use Rattle.scan.specs.Answers.{as_scan}
-use Rattle.scan.specs.declared.ScanResult.{ScanResult}
 use Rattle.scan.proofs.OneAnswer.{one_scan}
 use Rattle.plan.specs.Rows.{as_plan}
 use Rattle.plan.specs.declared.rows.Row.{Row}
-use Rattle.writer.specs.declared.image.WriteResult.TheVariants.{Written}
 use Rattle.mending.specs.Answers.{as_mended}
 use Rattle.mending.specs.declared.Mending as answer
-use Rattle.mending.specs.declared.MendResult.{MendResult}
-use Rattle.mending.specs.declared.MendResult.TheVariants as mend-says
 use Rattle.theorems.specs.Damage.{Protected, Damaged, Touched, Uncorrectable, uncorrected, ReadsBack}
 use Rattle.theorems.specs.ScrubSteps.{Changes}
 use Rattle.theorems.specs.Runs.{Writes, MendsTo, ScrubsTo, Prints}
 use Rattle.theorems.proofs.Demands as demands
 use Rattle.theorems.proofs.RunLaw as run
+use Rattle.std.specs.Prelude.{Option, Result, Ok, Err}
+use Rattle.ecc.specs.declared.EccReport.{EccReport}
+use Rattle.error.specs.declared.Refusal.{Refusal}
+use Rattle.mending.specs.declared.Mending.{Mending}
 
 -- ---- write left n bytes of image at the front of `after`; d is that image damaged, and mend of d answered r and left y
 
-module _ (rows : List Row) (payload out : List ℕ) (n : ℕ) (after : List ℕ) (wrote : Writes rows payload out (Written n) after) (bytes : Bytes payload) where
+module _ (rows : List Row) (payload out : List ℕ) (n : ℕ) (after : List ℕ) (wrote : Writes rows payload out (Ok n) after) (bytes : Bytes payload) where
   -- The damage of the allowed kind mends to the writer's exact bytes.
-  pub restores : (d : List ℕ) → Damaged 1 (take n after) d → (r : MendResult) (y : List ℕ) → MendsTo d r y
+  pub restores : (d : List ℕ) → Damaged 1 (take n after) d → (r : Result Mending Refusal) (y : List ℕ) → MendsTo d r y
       → (y ≡ take n after)
       × (as_mended r y ≡ mended (take n after) (scan d) (changed d (take n after)) (ltb 0 (planes (as_plan rows))))
   restores d damage r y mends =
@@ -52,7 +52,7 @@ module _ (rows : List Row) (payload out : List ℕ) (n : ℕ) (after : List ℕ)
       (scrubs.written ∙ o.0, scrubs.said ∙ ap (sets buffer 0) o.1)
 
   -- No other rows or payload come to it.
-  pub one_origin : (rows' : List Row) (payload' out' : List ℕ) (n' : ℕ) (after' : List ℕ) → Writes rows' payload' out' (Written n') after' → Bytes payload'
+  pub one_origin : (rows' : List Row) (payload' out' : List ℕ) (n' : ℕ) (after' : List ℕ) → Writes rows' payload' out' (Ok n') after' → Bytes payload'
       → (d : List ℕ) → Damaged 1 (take n after) d → Damaged 1 (take n' after') d → (rows ≡ rows') × (payload ≡ payload')
   one_origin rows' payload' out' n' after' wrote' bytes' d damage damage' =
       let o = demands.one_origin (as_plan rows) (as_plan rows') payload payload' (length out) (length out') (take n after) (take n' after') d
@@ -60,7 +60,7 @@ module _ (rows : List Row) (payload out : List ℕ) (n : ℕ) (after : List ℕ)
       (run.same_rows rows rows' o.0, o.1)
 
   -- With up to two bits wrong in each word: whole means the writer's bytes, and an uncorrectable word is as given.
-  pub whole_means_whole : (d : List ℕ) → Damaged 2 (take n after) d → (r : MendResult) (y : List ℕ) → MendsTo d r y
+  pub whole_means_whole : (d : List ℕ) → Damaged 2 (take n after) d → (r : Result Mending Refusal) (y : List ℕ) → MendsTo d r y
       → (as_mended r y ≡ mended y (scan d) (changed d y) (whole d))
       × (whole d ≡ true → y ≡ take n after)
       × ((q c : ℕ) → Protected (take n after) q c → Uncorrectable d q c → (word_at y q ≡ word_at d q) × (at y c ≡ at d c))
@@ -81,21 +81,21 @@ module _ (rows : List Row) (payload out : List ℕ) (n : ℕ) (after : List ℕ)
 
 -- ---- mend of any x: it refuses with 12 exactly if parse accepts and the image isn't laid apart, and names the first misplaced entry
 
-pub mend_refuses_exactly : (x : List ℕ) (r : MendResult) (y : List ℕ) → MendsTo x r y
-    → ((i : ℕ) → r ≡ mend-says.Refused (OverlappingRegions i)
+pub mend_refuses_exactly : (x : List ℕ) (r : Result Mending Refusal) (y : List ℕ) → MendsTo x r y
+    → ((i : ℕ) → r ≡ Err (OverlappingRegions i)
     → (parse x ≡ accepted (header_of x)) × (LaidApart (count x) (directory x) → ⊥) × FirstMisplaced (count x) (directory x) i)
-    × (parse x ≡ accepted (header_of x) → (LaidApart (count x) (directory x) → ⊥) → (i : ℕ) × (r ≡ mend-says.Refused (OverlappingRegions i)))
+    × (parse x ≡ accepted (header_of x) → (LaidApart (count x) (directory x) → ⊥) → (i : ℕ) × (r ≡ Err (OverlappingRegions i)))
 mend_refuses_exactly x r y u =
     let d = demands.mend_refuses_exactly x in (
-      λ i e. d.1 i (sym u.answer ∙ ap (λ (z : MendResult). as_mended z y) e),
-      λ p n. let o = d.2 p n in (o.0, one_mend r (mend-says.Refused (OverlappingRegions o.0)) y y (u.answer ∙ o.1)),
+      λ i e. d.1 i (sym u.answer ∙ ap (λ (z : Result Mending Refusal). as_mended z y) e),
+      λ p n. let o = d.2 p n in (o.0, one_mend r (Err (OverlappingRegions o.0)) y y (u.answer ∙ o.1)),
     )
 
 -- ---- mend of any x answered m and left y
 
-module _ (x : List ℕ) (bytes : Bytes x) (m : answer.Mending) (y : List ℕ) (mends : MendsTo x (mend-says.Mended m) y) where
+module _ (x : List ℕ) (bytes : Bytes x) (m : answer.Mending) (y : List ℕ) (mends : MendsTo x (Ok m) y) where
   -- Mending again leaves the same bytes, corrects nothing and stores nothing.
-  pub settles : (r : MendResult) (z : List ℕ) → MendsTo y r z → (z ≡ y) × (as_mended r z ≡ mended y (uncorrected (as_scan m.report)) 0 m.whole)
+  pub settles : (r : Result Mending Refusal) (z : List ℕ) → MendsTo y r z → (z ≡ y) × (as_mended r z ≡ mended y (uncorrected (as_scan m.report)) 0 m.whole)
   settles r z again =
       run.mends_to y r z _ again (demands.settles x y (as_scan m.report) m.stored m.whole bytes (run.mended x m y mends))
 
@@ -121,7 +121,7 @@ module _ (x : List ℕ) (bytes : Bytes x) (m : answer.Mending) (y : List ℕ) (m
   fresh_check = demands.fresh_check x y (as_scan m.report) m.stored m.whole bytes (run.mended x m y mends)
 
   -- A scrub of the same image answers mend's report. Its bytes are mend's outside header and check bytes, and as given there.
-  pub scrub_agrees : (r : ScanResult) (z : List ℕ) → ScrubsTo x r z
+  pub scrub_agrees : (r : Option EccReport) (z : List ℕ) → ScrubsTo x r z
       → (r ≡ m.report)
       × (length z ≡ length y)
       × ((p : ℕ) → header_length (count x) ≤ p → ((q c : ℕ) → Protected x q c → c ≡ p → ⊥) → at z p ≡ at y p)
@@ -140,5 +140,5 @@ module _ (x : List ℕ) (bytes : Bytes x) (m : answer.Mending) (y : List ℕ) (m
 -- ---- scrub of any x answered r and left y
 
 -- A byte that changed lay, at that moment, in a word of a protected region, and the word's syndrome was the column of the data bit that it holds.
-pub scrub_touches : (x : List ℕ) → Bytes x → (r : ScanResult) (y : List ℕ) → ScrubsTo x r y → (b : ℕ) → (at y b ≡ at x b → ⊥) → Changes x b
+pub scrub_touches : (x : List ℕ) → Bytes x → (r : Option EccReport) (y : List ℕ) → ScrubsTo x r y → (b : ℕ) → (at y b ≡ at x b → ⊥) → Changes x b
 scrub_touches x bytes r y scrubs b n = demands.scrub_touches x bytes b (λ e. n (ap (λ (v : List ℕ). at v b) scrubs.leaves ∙ e))

@@ -1,7 +1,7 @@
 -- What an answer says of the verdict behind it. Assumes nothing.
 use mathlib.Core.Path.{◌≡◌, refl, sym, ap, ◌∙◌}
 use mathlib.Core.List.{List}
-use Rattle.std.specs.Prelude.{Option, None, Some}
+use Rattle.std.specs.Prelude.{Option, None, Some, Result, Ok, Err}
 use Prim.Native.Nat.{ℕ}
 use native.Mathlib.Omega.{arith}
 use Rattle.model.specs.Layout.{Entry, count}
@@ -12,8 +12,6 @@ use Rattle.error.specs.Refused.{number_of, detail_of}
 use Rattle.layout.specs.declared.Region.{Region}
 use Rattle.layout.specs.Regions.{region_of}
 use Rattle.view.specs.declared.header.Header as view
-use Rattle.std.specs.Prelude.{Result, Ok, Err}
-use Rattle.std.specs.Prelude.{None, Some}
 use Rattle.model.specs.Refusals.{Verdict, fine, refuse}
 use Rattle.view.specs.Answers.{fine_with, refused_with, with_count, found_as, as_parsed}
 

@@ -6,7 +6,6 @@ use lib.ListN.{length}
 use Rattle.std.specs.Prelude.{None, Some}
 use Rattle.model.specs.Layout.{Entry, directory_of, start, end}
 use Rattle.model.specs.Views.{first_that, plane_for}
-use Rattle.std.specs.Prelude.{None, Some}
 use Rattle.view.specs.Answers.{found_as}
 use Rattle.model.specs.Views.{range, ecc_for}
 use Rattle.model.specs.Layout.{header_length}
