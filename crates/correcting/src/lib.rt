@@ -19,6 +19,7 @@ use scan::{ProtectedRun, count_word, protected_run_at};
 use view::Header;
 
 // The eight bytes of a word, lent to be written.
+#[tactic(auto, using(crate::proofs::CorrectLaw::stored_all, model::proofs::BytesLaw::length_le_bytes))]
 fn store_word(part: &mut [u8], word: u64)
     requires { length part.old ≡ 8 }
     ensures { part.new ≡ le_bytes 8 word }

@@ -85,14 +85,6 @@ all_filled t f =
 
 -- ---- a word by its places
 
--- the entries one by one, as the code has them
-pub eight : (t : List ℕ) (w : ℕ) {a b c d e f g h : ℕ} → a ≡ entry_for t w 0 → b ≡ entry_for t w 1 → c ≡ entry_for t w 2 → d ≡ entry_for t w 3
-    → e ≡ entry_for t w 4 → f ≡ entry_for t w 5 → g ≡ entry_for t w 6 → h ≡ entry_for t w 7
-    → bit_xor (bit_xor (bit_xor (bit_xor (bit_xor (bit_xor (bit_xor a b) c) d) e) f) g) h ≡ check_with t w
-unfolding check_with entries_to
-eight t w p q r s u v x y =
-    ap₂ bit_xor (ap₂ bit_xor (ap₂ bit_xor (ap₂ bit_xor (ap₂ bit_xor (ap₂ bit_xor (ap₂ bit_xor p q) r) s) u) v) x) y
-
 xor_columns_past : (cs : List ℕ) (n : ℕ) → xor_columns cs (n * 2 ^ length cs) ≡ 0
 unfolding xor_columns bit
 xor_columns_past [] n = refl

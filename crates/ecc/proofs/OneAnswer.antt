@@ -3,7 +3,7 @@ use mathlib.Core.Path.{◌≡◌, refl, sym, ap, ◌∙◌}
 use Rattle.std.specs.Prelude.{Option, None, Some, option_map}
 use Rattle.model.specs.Parity.{Outcome, clean_word, corrected_word, uncorrectable_word}
 use Rattle.model.specs.Scan.{Report}
-use Rattle.model.proofs.OneAnswer.{OneAnswer, OneAnswerAnd, agree}
+use Rattle.model.proofs.OneAnswer.{One, OneAnswer, OneAnswerAnd, agree}
 use Rattle.ecc.specs.declared.WordStatus.{WordStatus}
 use Rattle.ecc.specs.declared.WordStatus.TheVariants.{Clean, Corrected, Uncorrectable}
 use Rattle.ecc.specs.declared.EccReport.{EccReport}
@@ -15,6 +15,10 @@ use Rattle.ecc.proofs.EccReport.is_clean.Reads as is_clean
 use Rattle.ecc.proofs.EccReport.needs_scrub.Reads as needs-scrub
 use Rattle.ecc.proofs.plane_word.Reads as plane_word_lem
 use Rattle.ecc.proofs.plane_scan.Reads as plane-scan
+use Rattle.ecc.proofs.check_table.CheckTable.new.Reads as table-new
+use Rattle.ecc.proofs.check_table.CheckTable.check_byte.Reads as table-check-byte
+use Rattle.ecc.proofs.check_table.CheckTable.decode_word.Reads as table-decode-word
+use Rattle.ecc.proofs.check_table.CheckTable.plane_scan.Reads as table-plane-scan
 use Rattle.ecc.proofs.check_table.fill_check_table.Reads as fill-check-table
 use Rattle.ecc.proofs.check_table.check_byte_with.Reads as check-byte-with
 use Rattle.ecc.proofs.check_table.decode_word_with.Reads as decode-word-with
@@ -79,3 +83,16 @@ one_answer_decode_word_with κs a r r' s s' p q = one_status r r' (agree p q)
 
 pub one_answer_plane_scan_with : OneAnswer plane-scan-with.Learnt
 one_answer_plane_scan_with κs a r r' s s' p q = one_report r r' (agree p q)
+
+-- in what the table holds: where it lies is the caller's
+pub one_answer_table_new : One table-new.Learnt (λ κs r r' s s'. r.entries.now ≡ r'.entries.now)
+one_answer_table_new κs a r r' s s' p q = agree p q
+
+pub one_answer_table_check_byte : OneAnswer table-check-byte.Learnt
+one_answer_table_check_byte κs a r r' s s' p q = agree p q
+
+pub one_answer_table_decode_word : OneAnswer table-decode-word.Learnt
+one_answer_table_decode_word κs a r r' s s' p q = one_status r r' (agree p q)
+
+pub one_answer_table_plane_scan : OneAnswer table-plane-scan.Learnt
+one_answer_table_plane_scan κs a r r' s s' p q = one_report r r' (agree p q)

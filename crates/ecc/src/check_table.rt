@@ -22,7 +22,9 @@ pub struct CheckTable<'a> {
 
 impl<'a> CheckTable<'a> {
     // It takes less than a microsecond: make it once for many words, and hand it on.
-    pub fn new(room: &'a mut [u8; 2048]) -> CheckTable<'a> {
+    pub fn new(room: &'a mut [u8; 2048]) -> CheckTable<'a>
+        ensures { IsCheckTable result.entries.now }
+    {
         fill_check_table(room);
         CheckTable { entries: room }
     }
@@ -73,6 +75,7 @@ fn fill_place(table: &mut [u8; 2048], columns: &[u8; 72], k: usize)
 }
 
 // The whole table, whatever was in it. It takes less than a microsecond: fill it once for many words, and lend it.
+#[tactic(auto, using(crate::proofs::CheckTableLaw::all_filled), unfolding(model::specs::Parity::columns))]
 pub fn fill_check_table(table: &mut [u8; 2048])
     ensures { IsCheckTable table.new }
 {
@@ -92,7 +95,9 @@ fn entry_for(table: &[u8; 2048], data: u64, k: usize) -> u8
     table[256 * k + ((data >> (8 * k)) % 256) as usize]
 }
 
-// The check byte, by the table.
+// The check byte, by the table. The three functions whose names end in `_with` take any table and promise what that one gives: to
+// take a `CheckTable` would ask more of a caller. (docs/DECISIONS.md)
+#[tactic(auto, unfolding(crate::specs::CheckTable::check_with, crate::specs::CheckTable::entries_to))]
 pub fn check_byte_with(table: &[u8; 2048], data: u64) -> u8
     ensures { result ≡ check_with table.now «data» }
 {
@@ -107,6 +112,7 @@ pub fn check_byte_with(table: &[u8; 2048], data: u64) -> u8
 }
 
 // What a word and its check byte say, by the table.
+#[tactic(auto, unfolding(crate::specs::CheckTable::outcome_with, crate::specs::CheckTable::decode_with))]
 pub fn decode_word_with(table: &[u8; 2048], data: u64, check: u8) -> WordStatus
     ensures { as_outcome result ≡ outcome_with table.now «data» check }
 {

@@ -75,6 +75,7 @@ fn column_of(syndrome: u8) -> Option<usize>
 }
 
 // The one bit of the 72 whose flip leaves this syndrome, which is not 0.
+#[tactic(auto, unfolding(model::specs::Parity::class_of, model::specs::Parity::is_odd_lem))]
 fn flipped_bit(syndrome: u8) -> Option<usize>
     requires { syndrome ≡ 0 → ⊥ }
     ensures { class_of syndrome ≡ flipped_at result }
@@ -86,6 +87,7 @@ fn flipped_bit(syndrome: u8) -> Option<usize>
 }
 
 // What a syndrome says of a word.
+#[tactic(auto, unfolding(model::specs::Parity::class_of, model::specs::Parity::flip_word))]
 fn status_of(data: u64, syndrome: u8) -> WordStatus
     ensures { as_outcome result ≡ outcome_as (class_of syndrome) «data» }
 {
@@ -100,6 +102,7 @@ fn status_of(data: u64, syndrome: u8) -> WordStatus
     }
 }
 
+#[tactic(auto, unfolding(model::specs::Parity::outcome, model::specs::Parity::decode, model::specs::Parity::syndrome))]
 pub fn decode_word(data: u64, check: u8) -> WordStatus
     ensures { as_outcome result ≡ outcome «data» check }
 {

@@ -32,19 +32,6 @@ module _ {n j : ℕ} (f : IsDigitCount 10 1 n (suc (suc j))) where
       let l : 10 ^ j ≤ n / 10 = omega (arith, more, pow-succ' 10 j) in
       (omega arith, omega (arith, f.1, pow-succ' 10 (suc j)), λ _. subst (λ (k : ℕ). 10 ^ k ≤ n / 10) (sym e) l)
 
--- ---- m digits hold a number below 10 ^ m
-
-pub few_digits : (m n k : ℕ) → 0 < m → n < 10 ^ m → IsDigitCount 10 1 n k → k ≤ m
-few_digits m n zero h l f = omega arith
-few_digits m n (suc zero) h l f = omega arith
-few_digits zero n (suc (suc j)) h l f = absurd (omega arith)
-few_digits (suc zero) n (suc (suc j)) h l f = absurd (omega (arith, l, ten f))
-few_digits (suc (suc m)) n (suc (suc j)) h l f =
-    omega (arith, few_digits (suc m) (n / 10) (suc j) (omega arith) (omega (arith, l, pow-succ' 10 (suc m))) (fewer f))
-
-pub u64_digits : (n k : ℕ) → n < 2 ^ 64 → IsDigitCount 10 1 n k → k ≤ 20
-u64_digits n k h f = few_digits 20 n k (lit< tt) (omega (arith, h)) f
-
 -- ---- the digits
 
 glyph_digit : (d : ℕ) → d < 10 → hex_digit_ascii d ∷ [] ≡ digit d

@@ -1,12 +1,11 @@
 -- Bytes put one run after the other: what is left to be put, from where on. Assumes nothing.
 use mathlib.Core.Path.{◌≡◌, refl, sym, ap, ap₂, ◌∙◌, subst}
 use mathlib.Core.List.{List, [], ◌∷◌, ◌++◌, append_assoc}
-use Prim.Native.Nat.{ℕ, suc, ◌+◌, ◌-◌, ◌≤◌, ◌<◌, zero-le}
+use Prim.Native.Nat.{ℕ, suc, ◌+◌, ◌-◌, ◌≤◌}
 use native.Mathlib.Nat.{add-zero, add-suc, suc-add}
-use native.Mathlib.Numerals.{add-one}
 use native.Mathlib.Omega.{arith}
-use lib.ListN.{length, get_or, take, drop, set, length-set, length-append, length-drop, drop_of_length-le}
-use lib.Seq.{sets, length-sets, sets-eq, take_at, drop_at, drop-cons, length-take-le}
+use lib.ListN.{length, take, drop, set, length-set, length-append}
+use lib.Seq.{paste, take-length, sets, length-sets, sets-eq, take_at, drop_at, length-take-le}
 use borrow.Rule.Slice.PartMut.{put_mid, Post-is}
 use Rattle.put.specs.Put.{Put}
 
@@ -21,6 +20,10 @@ pub replaced : (o bs : List ℕ) (p : ℕ) {o' : List ℕ} → p + length bs ≤
 replaced o bs p h e =
     let s = e ∙ sym (sets-eq bs o p h) in
     record { behind = refl; stored = s; long = ap length s ∙ length-sets o p bs }
+
+-- bytes that a loop has put one by one, all of them
+pub pasted : (o bs : List ℕ) (p n : ℕ) {o' : List ℕ} → n ≡ length bs → p + length bs ≤ length o → o' ≡ paste o p bs n → Put o p bs (p + length bs) o'
+pasted o bs p n e h f = replaced o bs p h (f ∙ ap (paste o p bs) e ∙ ap (λ (l : List ℕ). take p o ++ l ++ drop (p + length bs) o) (take-length bs))
 
 -- a part that was lent and came back with bytes
 pub came_back : (o bs : List ℕ) (p n : ℕ) {o' : List ℕ} → length bs ≡ n → p + n ≤ length o → o' ≡ put_mid p (p + n - p) o bs → Put o p bs (p + n) o'
@@ -80,32 +83,6 @@ put_part o p a h =
     ap (λ (l : List ℕ). take (length a) (drop p l)) (sets-eq a o p h ∙ append_assoc (take p o) a (drop (p + length a) o))
     ∙ ap (take (length a)) (drop_at (take p o) (a ++ drop (p + length a) o) p (length-take-le p o (omega arith)))
     ∙ take_at a (drop (p + length a) o) (length a) refl
-
--- ---- byte by byte: i bytes of bs are put
-
-pub record Bytewise (o₀ : List ℕ) (p : ℕ) (bs o : List ℕ) (i : ℕ) : Type 0 where
-  pub some : i ≤ length bs
-  pub going : Going o₀ p bs o (p + i) (drop i bs)
-
-pub none_put : (o : List ℕ) (p : ℕ) (bs : List ℕ) → p + length bs ≤ length o → Bytewise o p bs o 0
-none_put o p bs h = record { some = zero-le; going = subst (λ (k : ℕ). Going o p bs o k bs) (sym (add-zero p)) (begin o p bs h) }
-
-module _ {o₀ : List ℕ} {p : ℕ} {bs : List ℕ} (o : List ℕ) (i : ℕ) (g : Bytewise o₀ p bs o i) where
-  pub byte_room : i < length bs → p + i < length o
-  byte_room l = omega (arith, g.going.room, length-drop i bs)
-
-  pub byte_put : (x : ℕ) → i < length bs → x ≡ get_or bs i 0 → Bytewise o₀ p bs (set o (p + i) x) (i + 1)
-  byte_put x l e =
-      let c : drop i bs ≡ x ∷ drop (i + 1) bs = rw (e, add-one) (drop-cons bs i 0 l) in
-      let m : p + i + 1 ≡ p + (i + 1) = omega arith in
-      record {
-        some = omega arith;
-        going = subst (λ (k : ℕ). Going o₀ p bs (set o (p + i) x) k (drop (i + 1) bs)) m
-            (go_byte o (p + i) x (drop (i + 1) bs) (subst (Going o₀ p bs o (p + i)) c g.going));
-      }
-
-  pub all_put : length bs ≤ i → Put o₀ p bs (p + i) o
-  all_put l = gone o (p + i) (subst (Going o₀ p bs o (p + i)) (drop_of_length-le bs l) g.going)
 
 pub put_read : (o : List ℕ) (p : ℕ) (a : List ℕ) {r : ℕ} {o' : List ℕ} → Put o p a r o' → p + length a ≤ length o → take (r - p) (drop p o') ≡ a
 put_read o p a {r} {o'} h l =

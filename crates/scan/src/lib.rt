@@ -19,6 +19,7 @@ pub use runs::{ProtectedRun, protected_run_at};
 pub use tally::{count_word, together};
 use view::Header;
 
+#[tactic(auto, using(model::proofs::ScanLaw::slice_scan_lem))]
 fn scan_run(table: CheckTable, bytes: &[u8], run: ProtectedRun) -> EccReport
     requires { Fits bytes.now run }
     ensures { as_report result ≡ report (classes_at bytes.now (codewords_of run)) }

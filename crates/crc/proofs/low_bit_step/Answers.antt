@@ -3,16 +3,9 @@ use mathlib.Core.Bool.{Bool}
 use Prim.Native.Nat.{◌/◌}
 use lib.Bits.{bit_xor, xor_zero_r}
 use Rattle.bits.specs.Linear.{pick}
-use Rattle.bits.proofs.BitLaw.{low_on, low_off}
+use Rattle.bits.proofs.BitLaw.{low_off}
 use Rattle.model.specs.Crc.{POLY, step_r}
 use Rattle.crc.proofs.low_bit_step.Goals as goal
-
--- `crc::low_bit_step` meets its contract. Assumes nothing.
-pub returns-then-crc-eq1 : goal.returns-then-crc-eq1
-unfolding step_r
-returns-then-crc-eq1 c =
-    let s = c.args.crc in
-    ap (λ (t : Bool). bit_xor (s / 2) (pick t POLY)) (sym (low_on s c.if-crc-eq1.true))
 
 pub returns-else-crc-eq1 : goal.returns-else-crc-eq1
 unfolding step_r
