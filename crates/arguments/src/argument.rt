@@ -13,6 +13,7 @@ fn is_dashed(argument: &[u8]) -> bool
     matches!(argument, [b'-', _, ..])
 }
 
+// Words are compared one by one: a match on byte strings has cases by length and by byte, and the check leaves their goals open.
 fn option(argument: &[u8]) -> Word
     ensures { result ≡ model.option_of argument.now }
 {

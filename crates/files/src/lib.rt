@@ -41,6 +41,7 @@ pub fn print(rt: &HostRuntime, text: &[u8]) -> Result<bool, Gone> {
     told(rt, b"standard output", rt.stdout().write_all(text))
 }
 
+// The image's memory is lent, and used again for the next file, so what is read is a length in it.
 fn read_open<R: Read>(
     rt: &HostRuntime,
     file: &mut R,

@@ -1,6 +1,5 @@
 // Links, and the file that a name leads to through them.
-ghost use Rattle.std.specs.Prelude.{IfOk};
-ghost use Rattle.io.specs.Counts.{IsPrefixLen};
+ghost use Rattle.std.specs.Prelude.{◌≤◌, length};
 
 use crate::names::{not_text, path};
 use std::io::{Error, ErrorKind};
@@ -8,49 +7,56 @@ use std::rt::Files;
 
 const MOST_LINKS: usize = 40;
 
-fn copied(name: &[u8], target: &mut [u8]) -> usize
-    ensures { IsPrefixLen result target.new }
-{
-    if name.len() > target.len() {
-        return 0;
+// A name, at the start of memory for the longest.
+#[derive(Drop)]
+pub(crate) struct Name<const N: usize> {
+    memory: [u8; N],
+    len: usize,
+    ghost fits: { len ≤ length memory },
+}
+
+impl<const N: usize> Name<N> {
+    // A name, or none where it does not fit.
+    fn of(name: &[u8]) -> Self {
+        let mut memory = [0u8; N];
+        if name.len() > memory.len() {
+            return Name { memory, len: 0 };
+        }
+        let len = put::put_bytes(&mut memory, 0, name);
+        Name { memory, len }
     }
-    put::put_bytes(target, 0, name)
+
+    pub(crate) fn as_bytes(&self) -> &[u8] {
+        &self.memory[..self.len]
+    }
 }
 
 // The text of the link at path, or nothing where there is no link.
-fn link_text(rt: &HostRuntime, name: &[u8], link: &mut [u8]) -> Result<usize, Error>
-    ensures { IfOk result (λ n. IsPrefixLen n link.new) }
-{
+fn link_text(rt: &HostRuntime, name: &[u8]) -> Result<Name<4096>, Error> {
     match rt.read_link(rt.alloc(), path(name)?) {
-        Ok(text) => Ok(copied(text.as_path().as_str().as_bytes(), link)),
-        Err(error) if error.raw_os_error().is_some() => Ok(0),
+        Ok(text) => Ok(Name::of(text.as_path().as_str().as_bytes())),
+        Err(error) if error.raw_os_error().is_some() => Ok(Name::of(b"")),
         Err(error) if error.kind() == ErrorKind::InvalidFilename => Err(not_text()),
         Err(error) => Err(error),
     }
 }
 
-// Where a link leads whose name is at the start of target.
-fn follow(n: usize, link: &[u8], target: &mut [u8]) -> usize
-    requires { IsPrefixLen n target.old }
-    ensures { IsPrefixLen result target.new }
-{
-    let mut next = [0u8; 8192];
-    let m = paths::followed(&target[..n], link, &mut next);
-    copied(&next[..m], target)
+// Where a link at that path leads.
+fn followed(path: &[u8], link: &[u8]) -> Name<8192> {
+    let mut memory = [0u8; 8192];
+    let len = paths::followed(path, link, &mut memory);
+    Name { memory, len }
 }
 
-// The file that a name leads to through links, put into target.
-pub(crate) fn resolved(rt: &HostRuntime, name: &[u8], target: &mut [u8]) -> Result<usize, Error>
-    ensures { IfOk result (λ n. IsPrefixLen n target.new) }
-{
-    let mut n = copied(name, target);
+// The file that a name leads to through links.
+pub(crate) fn resolved(rt: &HostRuntime, name: &[u8]) -> Result<Name<8192>, Error> {
+    let mut target = Name::of(name);
     for _ in 0..MOST_LINKS {
-        let mut link = io::buffer();
-        let k = link_text(rt, &target[..n], &mut link)?;
-        if k == 0 {
-            return Ok(n);
+        let link = link_text(rt, target.as_bytes())?;
+        if link.as_bytes().is_empty() {
+            break;
         }
-        n = follow(n, &link[..k], target);
+        target = followed(target.as_bytes(), link.as_bytes());
     }
-    Ok(n)
+    Ok(target)
 }

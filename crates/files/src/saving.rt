@@ -94,9 +94,7 @@ fn replace_resolved(
     about: FileKind,
     image: &[u8],
 ) -> Result<(), Error> {
-    let mut target = [0u8; 8192];
-    let n = resolved(rt, name, &mut target)?;
-    replace(rt, &target[..n], about, image)
+    replace(rt, resolved(rt, name)?.as_bytes(), about, image)
 }
 
 // A device or a pipe is written to, and not replaced.
@@ -127,9 +125,7 @@ fn save_made(rt: &HostRuntime, name: &[u8], target: &[u8], image: &[u8]) -> Resu
 }
 
 fn save_new(rt: &HostRuntime, name: &[u8], image: &[u8]) -> Result<(), Error> {
-    let mut target = [0u8; 8192];
-    let n = resolved(rt, name, &mut target)?;
-    save_made(rt, name, &target[..n], image)
+    save_made(rt, name, resolved(rt, name)?.as_bytes(), image)
 }
 
 fn open_append(rt: &HostRuntime, name: &[u8]) -> Result<File, Error> {

@@ -2,6 +2,27 @@
 ghost use Rattle.std.specs.Prelude.{◌≡◌, ◌+◌, ◌*◌, ◌/◌, ◌%◌, ◌<◌, ◌≤◌, [], ◌∷◌, ◌++◌, length};
 ghost use Rattle.model.specs.Hex.{digit_of, pairs_of, total, sum_byte, record_line};
 ghost use Rattle.put.specs.Put.{Put};
+ghost use Rattle.intel_hex.specs.Steps.{type_of};
+
+// What a line holds: bytes, nothing any more, or the upper half of the addresses behind it.
+#[derive(Clone, Copy)]
+pub(crate) enum RecordType {
+    Data,
+    End,
+    Upper,
+}
+
+impl RecordType {
+    fn number(self) -> u8
+        ensures { result ≡ type_of self }
+    {
+        match self {
+            RecordType::Data => 0,
+            RecordType::End => 1,
+            RecordType::Upper => 4,
+        }
+    }
+}
 
 // A digit's character, in upper case.
 fn digit(d: u8) -> u8
@@ -50,11 +71,18 @@ fn sum_byte(head: &[u8; 4], bytes: &[u8]) -> [u8; 1]
 }
 
 // A line with its line feed.
-pub(crate) fn put_record(text: &mut [u8], at: usize, address: u16, kind: u8, bytes: &[u8]) -> usize
-    requires { (at + 12 + 2 * length bytes.now ≤ length text.old) × (length bytes.now ≤ 255) }
-    ensures { Put text.old at (record_line address kind bytes.now ++ (10 ∷ [])) result text.new }
+pub(crate) fn put_record(
+    text: &mut [u8],
+    at: usize,
+    address: u16,
+    kind: RecordType,
+    bytes: &[u8],
+) -> usize
+    requires room { at + 12 + 2 * length bytes.now ≤ length text.old }
+    requires short { length bytes.now ≤ 255 }
+    ensures { Put text.old at (record_line address (type_of kind) bytes.now ++ (10 ∷ [])) result text.new }
 {
-    let head = head(bytes.len() as u8, address, kind);
+    let head = head(bytes.len() as u8, address, kind.number());
     let sum = sum_byte(&head, bytes);
     text[at] = b':';
     let data = put_pairs(text, at + 1, &head);

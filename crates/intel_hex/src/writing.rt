@@ -6,7 +6,7 @@ ghost use Rattle.put.specs.Put.{Put};
 ghost use Rattle.intel_hex.specs.Answers.{as_hex, answer_of, filled};
 ghost use Rattle.intel_hex.specs.Steps.{text_length};
 
-use crate::record::put_record;
+use crate::record::{RecordType, put_record};
 use error::Refusal;
 use layout::MAX_IMAGE_BYTES;
 
@@ -15,12 +15,6 @@ const LINE_BYTES: usize = 16;
 
 // The bytes that have one upper half of the address.
 const HALF: usize = 65536;
-
-const DATA: u8 = 0;
-
-const END: u8 = 1;
-
-const UPPER: u8 = 4;
 
 fn upper_half(address: usize) -> [u8; 2]
     requires { address < 4294967296 }
@@ -31,7 +25,8 @@ fn upper_half(address: usize) -> [u8; 2]
 
 // The line that stands before each further 65,536 bytes.
 fn put_upper(text: &mut [u8], at: usize, address: usize) -> usize
-    requires { (at + length (lines (upper_lines address)) ≤ length text.old) × (address < 4294967296) }
+    requires room { at + length (lines (upper_lines address)) ≤ length text.old }
+    requires low { address < 4294967296 }
     ensures { Put text.old at (lines (upper_lines address)) result text.new }
 {
     if address == 0 {
@@ -40,21 +35,22 @@ fn put_upper(text: &mut [u8], at: usize, address: usize) -> usize
     if address % HALF != 0 {
         return at;
     }
-    put_record(text, at, 0, UPPER, &upper_half(address))
+    put_record(text, at, 0, RecordType::Upper, &upper_half(address))
 }
 
 fn put_text(text: &mut [u8], bytes: &[u8]) -> usize
-    requires { (length (hex_text bytes.now) ≤ length text.old) × (length bytes.now ≤ 8388608) }
+    requires room { length (hex_text bytes.now) ≤ length text.old }
+    requires small { length bytes.now ≤ 8388608 }
     ensures { Put text.old 0 (hex_text bytes.now) result text.new }
 {
     let mut next: usize = 0;
     let mut from: usize = 0;
     for line in bytes.chunks(LINE_BYTES) {
         let data = put_upper(text, next, from);
-        next = put_record(text, data, (from % HALF) as u16, DATA, line);
+        next = put_record(text, data, (from % HALF) as u16, RecordType::Data, line);
         from += LINE_BYTES;
     }
-    put_record(text, next, 0, END, b"")
+    put_record(text, next, 0, RecordType::End, b"")
 }
 
 // How often 65,536 bytes are followed by more.

@@ -44,10 +44,8 @@ fn vote_copies(bytes: &mut [u8], base: usize, k: usize) -> usize
     ensures counts { result ≡ changed bytes.old bytes.new }
 {
     let mut stored: usize = 0;
-    let mut j: usize = 0;
-    while j < k {
+    for j in 0..k {
         stored += vote_byte(bytes, base, k, j);
-        j += 1;
     }
     stored
 }

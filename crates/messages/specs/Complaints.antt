@@ -1,5 +1,6 @@
 -- What the command says, in words, of an image that is refused or too long. (FORMAT 14)
-use Rattle.std.specs.Prelude.{cond, List, [], ◌∷◌, ◌++◌, ℕ, ltb, length}
+use Rattle.std.specs.Prelude.{cond, List, [], ◌∷◌, ◌++◌, ℕ}
+use Rattle.paths.specs.Paths.{longer_than_names}
 use Rattle.model.specs.Programs.{text, lines}
 use Rattle.sentences.specs.Sentences.{sentence}
 use Rattle.exit_status.specs.declared.Verdict.{Verdict}
@@ -20,4 +21,4 @@ complaint name (verdict.Refused r) = lines ((naming name ++ sentence r) ∷ [])
 
 -- no name is longer than 4,096 bytes, and of one that were nothing is said
 abbrev pub refusal_text : List ℕ → Verdict → List ℕ
-refusal_text name v = cond (ltb 4096 (length name)) [] (complaint name v)
+refusal_text name v = cond (longer_than_names name) [] (complaint name v)

@@ -1,5 +1,6 @@
 -- Help, and what is said of arguments that ask for nothing. (FORMAT 14)
 use Rattle.std.specs.Prelude.{cond, List, [], ◌++◌, ℕ, Option, Some, ltb, length}
+use Rattle.paths.specs.Paths.{longer_than_names}
 use Rattle.model.specs.Programs.{text}
 use Rattle.arguments.specs.declared.words.Command.{Command}
 use Rattle.arguments.specs.declared.words.Command.TheVariants.{Report, Mend}
@@ -31,4 +32,4 @@ abbrev pub fault_start : List ℕ → List ℕ
 fault_start word = cond (ltb 0 (length word)) (naming word) (text "kw: ")
 
 abbrev pub fault_text : Fault → List ℕ → List ℕ
-fault_text f word = cond (ltb 4096 (length word)) [] (fault_start word ++ (fault_sentence f ++ text "; try kw help\n"))
+fault_text f word = cond (longer_than_names word) [] (fault_start word ++ (fault_sentence f ++ text "; try kw help\n"))

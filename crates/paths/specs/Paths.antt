@@ -29,4 +29,4 @@ followed_name path link = cond (longer_than_names path) [] (cond (longer_than_na
 
 -- a name as the start of a line on standard error, which the system's reason follows
 abbrev pub subject_text : List ℕ → List ℕ
-subject_text name = cond (ltb 4096 (length name)) (text "kw") (text "kw: " ++ name)
+subject_text name = cond (longer_than_names name) (text "kw") (text "kw: " ++ name)

@@ -5,7 +5,8 @@ ghost use Rattle.plan.specs.Checking.{marked, with_mark};
 // Words with a bit for each kind, of which there are 65,536.
 const KIND_WORDS: usize = 1024;
 
-// A kind is looked up at once, also in a plan of more rows than an image can have.
+// A bit for each kind, so that a kind is looked up at once, also in a plan of more rows than an image can have.
+// The sets of std lie on the heap, which no library of this project uses.
 #[derive(Drop)]
 pub(crate) struct Kinds {
     bits: [u64; KIND_WORDS],

@@ -49,7 +49,7 @@ fn split(template: &str) -> Option<(&str, &str)>
     template.split_once('#')
 }
 
-// The sentence on a refusal.
+// The sentence on a refusal, in a lent buffer: nothing here uses the heap, and the clauses say what every byte of it becomes.
 pub fn in_words(refusal: Refusal, out: &mut [u8; 128]) -> usize
     ensures is { result ≡ length (sentence refusal) }
     ensures leaves { out.new ≡ sets out.old 0 (sentence refusal) }

@@ -1,18 +1,16 @@
 // Parse: the header's checks in their order. (FORMAT 5)
-ghost use Rattle.std.specs.Prelude.{◌≡◌, ◌||◌, ℕ, ◌+◌, ◌*◌, ◌<◌, ◌≤◌, length, take};
-ghost use Rattle.model.specs.Layout.{header_length, prologue, count_in, count, directory_of, end};
+ghost use Rattle.std.specs.Prelude.{◌≡◌, ◌||◌, ◌<◌, ◌≤◌, length, MatchResult};
+ghost use Rattle.model.specs.Layout.{prologue, count, directory_of, end};
 ghost use Rattle.model.specs.Parse as model;
 ghost use Rattle.model.specs.Steps.{entry_in};
-ghost use Rattle.error.specs.Refused.{as_check};
-ghost use Rattle.view.specs.Answers.{as_counted, with_count, as_parsed};
+ghost use Rattle.error.specs.Refused.{as_check, number_of, detail_of};
+ghost use Rattle.view.specs.Answers.{as_counted, with_count, fine_with, refused_with, as_parsed};
 ghost use Rattle.view.specs.Kinds.{elem, kinds_of};
 
-use crate::vote::{copies_differ, entry_u16, entry_u32, voted_checksum, voted_u16, voted_u32};
+use crate::directory::Directory;
+use crate::vote::Copies;
 use error::Refusal;
-use layout::{
-    BOM, DIR_ENTRY_BYTES, DIRECTORY_OFFSET, FORMAT_VERSION, MAGIC, MAX_REGIONS, PROLOGUE_BYTES,
-    WORD, header_length,
-};
+use layout::{BOM, DIRECTORY_OFFSET, FORMAT_VERSION, MAGIC, MAX_REGIONS, PROLOGUE_BYTES, WORD};
 
 // An accepted image's number of regions, and which header copies disagreed with their vote.
 #[derive(Clone, Copy, Debug, PartialEq, Eq)]
@@ -34,27 +32,33 @@ impl Header {
 pub fn parse(bytes: &[u8]) -> Result<Header, Refusal>
     ensures { as_parsed result ≡ model.parse bytes.now }
 {
-    let n = check_header(bytes)?;
+    let directory = check_header(bytes)?;
+    let prologue = Copies {
+        bytes,
+        base: 0,
+        len: PROLOGUE_BYTES,
+    };
     Ok(Header {
-        region_count: n,
-        prologue_disagreed: copies_differ(bytes, 0, PROLOGUE_BYTES),
-        directory_disagreed: copies_differ(bytes, DIRECTORY_OFFSET, DIR_ENTRY_BYTES * (n as usize)),
+        region_count: directory.count,
+        prologue_disagreed: prologue.differ(),
+        directory_disagreed: directory.copies().differ(),
     })
 }
 
-// The number of regions, without asking which header copies differ.
-fn check_header(bytes: &[u8]) -> Result<u16, Refusal>
-    ensures { as_counted result ≡ with_count (model.parse_verdict bytes.now) (count bytes.now) }
+// The directory, without asking which header copies differ.
+fn check_header(bytes: &[u8]) -> Result<Directory, Refusal>
+    ensures { MatchResult result (λ d. (d.bytes ≡ bytes.entry) × (fine_with d.count ≡ with_count (model.parse_verdict bytes.now) (count bytes.now)))
+        (λ r. refused_with (number_of r) (detail_of r) ≡ with_count (model.parse_verdict bytes.now) (count bytes.now)) }
 {
     if bytes.len() < DIRECTORY_OFFSET {
         return Err(Refusal::Truncated);
     }
     let n = check_prologue(bytes)?;
-    if bytes.len() < header_length(n) {
+    let Some(directory) = Directory::of(bytes, n) else {
         return Err(Refusal::Truncated);
-    }
-    check_directory(bytes, n as usize)?;
-    Ok(n)
+    };
+    check_directory(directory)?;
+    Ok(directory)
 }
 
 // The voted prologue's fields; the count that it gives is at most 1024.
@@ -62,63 +66,65 @@ fn check_prologue(bytes: &[u8]) -> Result<u16, Refusal>
     requires { 48 ≤ length bytes.now }
     ensures { as_counted result ≡ with_count (model.prologue_verdict (prologue bytes.now)) (count bytes.now) }
 {
-    if voted_u32(bytes, 0, PROLOGUE_BYTES, 0) != MAGIC {
+    let prologue = Copies {
+        bytes,
+        base: 0,
+        len: PROLOGUE_BYTES,
+    };
+    if prologue.u32_at(0) != MAGIC {
         return Err(Refusal::BadMagic);
     }
-    if voted_u16(bytes, 0, PROLOGUE_BYTES, 4) != BOM {
+    if prologue.u16_at(4) != BOM {
         return Err(Refusal::ForeignEndian);
     }
-    let version = voted_u16(bytes, 0, PROLOGUE_BYTES, 6);
+    let version = prologue.u16_at(6);
     if version != FORMAT_VERSION {
         return Err(Refusal::UnsupportedVersion { found: version });
     }
-    if voted_u32(bytes, 0, PROLOGUE_BYTES, 12) != voted_checksum(bytes) {
+    if prologue.u32_at(12) != prologue.checksum() {
         return Err(Refusal::BadPrologueChecksum);
     }
-    let n = voted_u16(bytes, 0, PROLOGUE_BYTES, 8);
+    let n = prologue.u16_at(8);
     if n as usize > MAX_REGIONS {
         return Err(Refusal::TooManyRegions { found: n as usize });
     }
     Ok(n)
 }
 
-fn check_directory(bytes: &[u8], n: usize) -> Result<(), Refusal>
-    requires { (header_length n ≤ length bytes.now) × (n ≤ 1024) }
-    ensures { as_check result ≡ model.entries_verdict (length bytes.now) 0 (directory_of n bytes.now) }
+fn check_directory(directory: Directory) -> Result<(), Refusal>
+    requires { directory.count ≤ 1024 }
+    ensures { as_check result ≡ model.entries_verdict (length directory.entry.bytes.now) 0 (directory_of directory.entry.count directory.entry.bytes.now) }
 {
     let mut kinds = [0u16; MAX_REGIONS];
-    check_entries_in(bytes, n, &mut kinds[..n])
+    check_entries_in(directory, &mut kinds[..directory.count as usize])
 }
 
 // Checks the entries; kinds is scratch space for their kinds.
-fn check_entries_in(bytes: &[u8], n: usize, kinds: &mut [u16]) -> Result<(), Refusal>
-    requires { (header_length n ≤ length bytes.now) × (n ≤ 1024) × (length kinds.old ≡ n) }
-    ensures { as_check result ≡ model.entries_verdict (length bytes.now) 0 (directory_of n bytes.now) }
+fn check_entries_in(directory: Directory, kinds: &mut [u16]) -> Result<(), Refusal>
+    requires { (directory.count ≤ 1024) × (length kinds.old ≡ directory.count) }
+    ensures { as_check result ≡ model.entries_verdict (length directory.entry.bytes.now) 0 (directory_of directory.entry.count directory.entry.bytes.now) }
 {
-    vote_kinds(bytes, n, kinds);
-    check_entries(bytes, n, kinds)
+    vote_kinds(directory, kinds);
+    check_entries(directory, kinds)
 }
 
-// The kinds of n entries, each voted once, so that they can be compared with each other quickly.
-fn vote_kinds(bytes: &[u8], n: usize, kinds: &mut [u16])
-    requires { (header_length n ≤ length bytes.now) × (length kinds.old ≡ n) }
-    ensures { kinds.new ≡ kinds_of (directory_of n bytes.now) }
+// The entries' kinds, each voted once, so that they can be compared with each other quickly.
+fn vote_kinds(directory: Directory, kinds: &mut [u16])
+    requires { length kinds.old ≡ directory.count }
+    ensures { kinds.new ≡ kinds_of (directory_of directory.entry.count directory.entry.bytes.now) }
 {
-    let mut i: usize = 0;
-    while i < n {
-        kinds[i] = entry_u16(bytes, n, i, 0);
-        i += 1;
+    for i in 0..directory.count as usize {
+        kinds[i] = directory.u16_at(i, 0);
     }
 }
 
 // For each entry in turn: its end past the image, then a later entry with its kind.
-fn check_entries(bytes: &[u8], n: usize, kinds: &[u16]) -> Result<(), Refusal>
-    requires { (header_length n ≤ length bytes.now) × (n ≤ 1024) × (length kinds.now ≡ n) × (kinds.now ≡ kinds_of (directory_of n bytes.now)) }
-    ensures { as_check result ≡ model.entries_verdict (length bytes.now) 0 (directory_of n bytes.now) }
+fn check_entries(directory: Directory, kinds: &[u16]) -> Result<(), Refusal>
+    requires { (directory.count ≤ 1024) × (length kinds.now ≡ directory.count) × (kinds.now ≡ kinds_of (directory_of directory.count directory.bytes.now)) }
+    ensures { as_check result ≡ model.entries_verdict (length directory.entry.bytes.now) 0 (directory_of directory.entry.count directory.entry.bytes.now) }
 {
-    let mut i: usize = 0;
-    while i < n {
-        if bytes.len() < voted_end(bytes, n, i) {
+    for i in 0..directory.count as usize {
+        if directory.bytes.len() < voted_end(directory, i) {
             return Err(Refusal::RegionOutOfBounds { index: i as u16 });
         }
         let kind = kinds[i];
@@ -126,18 +132,17 @@ fn check_entries(bytes: &[u8], n: usize, kinds: &[u16]) -> Result<(), Refusal>
         if is_among(kind, &kinds[next..]) {
             return Err(Refusal::DuplicateRegion { kind });
         }
-        i += 1;
     }
     Ok(())
 }
 
 // The byte after entry i's last.
-fn voted_end(bytes: &[u8], n: usize, i: usize) -> usize
-    requires { (header_length n ≤ length bytes.now) × (i < n) }
-    ensures { result ≡ end (entry_in n bytes.now i) }
+fn voted_end(directory: Directory, i: usize) -> usize
+    requires { i < directory.count }
+    ensures { result ≡ end (entry_in directory.entry.count directory.entry.bytes.now i) }
 {
-    let offset = entry_u32(bytes, n, i, 4);
-    let words = entry_u32(bytes, n, i, 8);
+    let offset = directory.u32_at(i, 4);
+    let words = directory.u32_at(i, 8);
     WORD * (offset as usize + words as usize)
 }
 
@@ -146,12 +151,10 @@ fn is_among(kind: u16, kinds: &[u16]) -> bool
     ensures { result ≡ elem kind kinds.now }
 {
     let mut found = false;
-    let mut j: usize = 0;
-    while j < kinds.len() {
-        if kinds[j] == kind {
+    for other in kinds {
+        if *other == kind {
             found = true;
         }
-        j += 1;
     }
     found
 }

@@ -1,6 +1,7 @@
 // The reader, after view.rs: parse and lookups over a caller's bytes.
 #![tactic(auto)]
 
+mod directory;
 mod header;
 mod regions;
 mod vote;

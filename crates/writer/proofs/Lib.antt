@@ -1,3 +1,4 @@
+pub mod ChecksLaw
 pub mod CopiesLaw
 pub mod EntriesLaw
 pub mod ImageLaw

@@ -55,6 +55,8 @@ fn put_row_entries(out: &mut [u8], at: usize, rows: &[Row], first_word: u32) -> 
     next
 }
 
+// The rows' loop with another entry, and for fewer rows: a loop for both would take a closure, and its contract a ghost function
+// for the closure and a law for each of the two, which is no plainer.
 fn put_plane_entries(out: &mut [u8], at: usize, rows: &[Row], first_word: u32) -> usize
     requires room { at + length (entries_bytes (plane_entries first_word (as_plan rows.now))) ≤ length out.old }
     requires packs { first_word + planes_words (as_plan rows.now) < 4294967296 }

@@ -1,5 +1,5 @@
 // The planes of a plan's image, put in the order of their rows. (FORMAT 9)
-ghost use Rattle.std.specs.Prelude.{◌≡◌, ◌+◌, ◌*◌, ◌≤◌, length};
+ghost use Rattle.std.specs.Prelude.{◌≡◌, ◌+◌, ◌*◌, ◌/◌, ◌≤◌, length};
 ghost use Rattle.model.specs.Writer.{row_words_lem, plane_words, checks, plane_bytes, planes_bytes};
 ghost use Rattle.plan.specs.Rows.{as_row, as_plan};
 ghost use Rattle.put.specs.Put.{Put};
@@ -17,35 +17,36 @@ pub(crate) fn put_planes(out: &mut [u8], at: usize, rows: &[Row], payload: &[u8]
     ensures { Put out.old at (planes_bytes (as_plan rows.now) payload.now) result out.new }
 {
     let mut next = at;
-    let mut from: usize = 0;
+    let mut rest = payload;
     for row in rows {
+        let (words, behind) = rest.split_at(WORD * row.words as usize);
         if row.is_protected() {
-            next = put_plane(out, next, *row, &payload[from..]);
+            next = put_plane(out, next, *row, words);
         }
-        from += WORD * row.words as usize;
+        rest = behind;
     }
     next
 }
 
 // A plane: the check bytes, and zeros up to a whole word.
-fn put_plane(out: &mut [u8], at: usize, row: Row, b: &[u8]) -> usize
+fn put_plane(out: &mut [u8], at: usize, row: Row, words: &[u8]) -> usize
     requires room { at + 8 * plane_words (as_row row) ≤ length out.old }
-    requires full { 8 * row.words ≤ length b.now }
-    ensures { Put out.old at (plane_bytes (as_row row) b.now) result out.new }
+    requires full { length words.now ≡ 8 * row.words }
+    ensures { Put out.old at (plane_bytes (as_row row) words.now) result out.new }
 {
-    let words = row.words as usize;
-    let tail = put_checks(out, at, words, b);
-    put_zeros(out, tail, WORD * row.plane_words() - words)
+    let tail = put_checks(out, at, words);
+    put_zeros(out, tail, WORD * row.plane_words() - row.words as usize)
 }
 
-// The check bytes of the first words of b.
-fn put_checks(out: &mut [u8], at: usize, words: usize, b: &[u8]) -> usize
-    requires room { at + words ≤ length out.old }
-    requires full { 8 * words ≤ length b.now }
-    ensures { Put out.old at (checks words b.now) result out.new }
+// The check bytes of whole words.
+fn put_checks(out: &mut [u8], at: usize, words: &[u8]) -> usize
+    requires { at + length words.now / 8 ≤ length out.old }
+    ensures { Put out.old at (checks (length words.now / 8) words.now) result out.new }
 {
-    for w in 0..words {
-        out[at + w] = check_byte(u64_or_zero(b, WORD * w));
+    let mut next = at;
+    for word in words.chunks_exact(WORD) {
+        out[next] = check_byte(u64_or_zero(word, 0));
+        next += 1;
     }
-    at + words
+    next
 }

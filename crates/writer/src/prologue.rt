@@ -8,7 +8,8 @@ use crc::crc32;
 use layout::{BOM, COPIES, FORMAT_VERSION, MAGIC};
 use put::put_number;
 
-// The three copies of the prologue, from the front of `out` on.
+// The three copies of the prologue, from the front of `out` on. The directory has this loop too: a closure that writes to `out`
+// would need a longer contract than the loop.
 pub(crate) fn put_prologues(out: &mut [u8], regions: u16, flags: u16) -> usize
     requires { 48 ≤ length out.old }
     ensures { Put out.old 0 (thrice (prologue_bytes regions flags)) result out.new }

@@ -16,7 +16,7 @@ pub put_record-requires : goal.put_record-requires
 put_record-requires c =
     let h = c.upper_half.ensures in
     let e = an_upper c.args.address c.if-address-eq0.false c.if-address-ne0.false in
-    (omega (arith, c.requires.0, ap length h, ap length e, length_line 0 4 c.upper_half.result, ap (λ (b : List ℕ). length (line_of 0 4 b)) h), omega (arith, ap length h))
+    record { room = omega (arith, c.requires.room, ap length h, ap length e, length_line 0 4 c.upper_half.result, ap (λ (b : List ℕ). length (line_of 0 4 b)) h); short = omega (arith, ap length h) }
 
 pub returns : goal.returns
 returns c =

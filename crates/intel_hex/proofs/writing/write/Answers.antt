@@ -19,7 +19,7 @@ returns-then-text-text_length c =
     record { is = told.0; leaves = told.1.0; fits = told.1.1 }
 
 pub put_text-requires : goal.put_text-requires
-put_text-requires c = (omega (arith, hex_length c.args.bytes.now), omega arith)
+put_text-requires c = record { room = omega (arith, hex_length c.args.bytes.now); small = omega arith }
 
 pub returns : goal.returns
 returns c =

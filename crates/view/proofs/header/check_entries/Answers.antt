@@ -16,7 +16,6 @@ use Rattle.view.specs.Kinds.{kinds_of, elem}
 use Rattle.view.proofs.KindsLaw.{kind_at, elem_kinds}
 use Rattle.view.proofs.header.check_entries.Goals as goal
 
--- `view::header::check_entries` meets its contract. The invariant: the verdict on the entries that are left is the whole verdict. Assumes nothing.
 -- the kinds are the voted ones
 module _ (n : ℕ) (x ks : List ℕ) (i : ℕ) (e : ks ≡ kinds_of (directory_of n x)) (h : i < n) where
   now_kind : get_or ks i 0 ≡ (entry_in n x i).kind
@@ -27,37 +26,39 @@ module _ (n : ℕ) (x ks : List ℕ) (i : ℕ) (e : ks ≡ kinds_of (directory_o
       sym (f ∙ ap (elem (get_or ks i 0)) (part_to_end ks (i + 1)) ∙ ap₂ (λ (k : ℕ) (l : List ℕ). elem k (drop (i + 1) l)) now_kind e ∙ elem_kinds (entry_in n x i).kind (i + 1) (directory_of n x))
 
 pub loop-i-init : goal.loop-i-init
-loop-i-init c = (omega arith, refl)
+loop-i-init c = refl
 
-pub returns-then-bytes-voted_end : goal.returns-then-bytes-voted_end
-returns-then-bytes-voted_end c =
-    let g = c.args in
+pub returns-then-directory-voted_end : goal.returns-then-directory-voted_end
+returns-then-directory-voted_end c =
+    let g = c.args.directory in
+    let ks = c.args.kinds.now in
     let x = g.bytes.now in
-    sym (verdict_past (directory_of g.n x) c.loop-i.i (entry_in g.n x c.loop-i.i) (walk g.n x c.loop-i.i (omega arith)) (length x)
-    (subst (λ (k : ℕ). length x < k) c.voted_end.ensures c.if-bytes-voted_end.true)) ∙ c.loop-i.invariant.1
+    sym (verdict_past (directory_of g.count x) c.loop-i.i (entry_in g.count x c.loop-i.i) (walk g.count x c.loop-i.i (omega arith)) (length x)
+    (subst (λ (k : ℕ). length x < k) c.voted_end.ensures c.if-directory-voted_end.true)) ∙ c.loop-i.invariant
 
 pub returns-then-is_among : goal.returns-then-is_among
 returns-then-is_among c =
-    let g = c.args in
+    let g = c.args.directory in
+    let ks = c.args.kinds.now in
     let x = g.bytes.now in
-    let k = now_kind g.n x g.kinds.now c.loop-i.i c.requires.3 (omega arith) in
+    let k = now_kind g.count x ks c.loop-i.i c.requires.2 (omega arith) in
     ap (refuse 8) k
-    ∙ sym (verdict_twice (directory_of g.n x) c.loop-i.i (entry_in g.n x c.loop-i.i) (walk g.n x c.loop-i.i (omega arith)) (length x)
-    (subst (λ (m : ℕ). m ≤ length x) c.voted_end.ensures c.if-bytes-voted_end.false)
-    (now_among g.n x g.kinds.now c.loop-i.i c.requires.3 (omega arith) c.is_among.result c.is_among.ensures ∙ c.if-is_among.true)) ∙ c.loop-i.invariant.1
+    ∙ sym (verdict_twice (directory_of g.count x) c.loop-i.i (entry_in g.count x c.loop-i.i) (walk g.count x c.loop-i.i (omega arith)) (length x)
+    (subst (λ (m : ℕ). m ≤ length x) c.voted_end.ensures c.if-directory-voted_end.false)
+    (now_among g.count x ks c.loop-i.i c.requires.2 (omega arith) c.is_among.result c.is_among.ensures ∙ c.if-is_among.true)) ∙ c.loop-i.invariant
 
 pub loop-i-preserved : goal.loop-i-preserved
 loop-i-preserved c =
-    let g = c.args in
-    let x = g.bytes.now in (
-      omega arith,
-      verdict_next (directory_of g.n x) c.loop-i.i (entry_in g.n x c.loop-i.i) (walk g.n x c.loop-i.i (omega arith)) (length x)
-          (subst (λ (m : ℕ). m ≤ length x) c.voted_end.ensures c.if-bytes-voted_end.false)
-          (now_among g.n x g.kinds.now c.loop-i.i c.requires.3 (omega arith) c.is_among.result c.is_among.ensures ∙ c.if-is_among.false) ∙ c.loop-i.invariant.1,
-    )
+    let g = c.args.directory in
+    let ks = c.args.kinds.now in
+    let x = g.bytes.now in
+    verdict_next (directory_of g.count x) c.loop-i.i (entry_in g.count x c.loop-i.i) (walk g.count x c.loop-i.i (omega arith)) (length x)
+    (subst (λ (m : ℕ). m ≤ length x) c.voted_end.ensures c.if-directory-voted_end.false)
+    (now_among g.count x ks c.loop-i.i c.requires.2 (omega arith) c.is_among.result c.is_among.ensures ∙ c.if-is_among.false) ∙ c.loop-i.invariant
 
 pub returns : goal.returns
 returns c =
-    let g = c.args in
+    let g = c.args.directory in
+    let ks = c.args.kinds.now in
     let x = g.bytes.now in
-    sym (verdict_end (directory_of g.n x) c.loop-i.i (walked g.n x c.loop-i.i (omega arith)) (length x)) ∙ c.loop-i.invariant.1
+    sym (verdict_end (directory_of g.count x) c.loop-i.i (walked g.count x c.loop-i.i (omega arith)) (length x)) ∙ c.loop-i.invariant

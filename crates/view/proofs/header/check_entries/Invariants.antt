@@ -1,12 +1,9 @@
 use mathlib.Core.Path.{◌≡◌}
-use Prim.Native.Nat.{◌-◌, ◌≤◌}
 use lib.ListN.{length, drop}
 use Rattle.model.specs.Layout.{directory_of}
 use Rattle.model.specs.Parse.{entries_verdict}
 use Rattle.view.proofs.header.check_entries.Given as goal
 
+-- `view::header::check_entries` meets its contract. The invariant: the verdict on the entries that are left is the whole verdict. Assumes nothing.
 abbrev pub invariant-loop-i : goal.invariant-loop-i
-invariant-loop-i l = (l.i ≤ l.n) × (entries_verdict (length l.bytes) l.i (drop l.i (directory_of l.n l.bytes)) ≡ entries_verdict (length l.bytes) 0 (directory_of l.n l.bytes))
-
-abbrev pub decreases-loop-i : goal.decreases-loop-i
-decreases-loop-i l = l.n - l.i
+invariant-loop-i l = entries_verdict (length l.directory.bytes.now) l.i (drop l.i (directory_of l.directory.count l.directory.bytes.now)) ≡ entries_verdict (length l.directory.bytes.now) 0 (directory_of l.directory.count l.directory.bytes.now)

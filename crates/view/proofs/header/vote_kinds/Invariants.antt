@@ -1,5 +1,5 @@
 use mathlib.Core.Path.{◌≡◌}
-use Prim.Native.Nat.{ℕ, ◌-◌, ◌≤◌, ◌<◌}
+use Prim.Native.Nat.{ℕ, ◌<◌}
 use lib.ListN.{length, get_or}
 use Rattle.model.specs.Layout.{directory_of}
 use Rattle.view.specs.Kinds.{kinds_of}
@@ -7,7 +7,4 @@ use Rattle.view.proofs.header.vote_kinds.Given as goal
 
 -- `view::header::vote_kinds` meets its contract. The invariant: the kinds passed are voted. Assumes nothing.
 abbrev pub invariant-loop-i : goal.invariant-loop-i
-invariant-loop-i l = (l.i ≤ l.n) × (length l.kinds ≡ l.n) × ((p : ℕ) → p < l.i → get_or l.kinds p 0 ≡ get_or (kinds_of (directory_of l.n l.bytes)) p 0)
-
-abbrev pub decreases-loop-i : goal.decreases-loop-i
-decreases-loop-i l = l.n - l.i
+invariant-loop-i l = (length l.kinds ≡ l.directory.count) × ((p : ℕ) → p < l.i → get_or l.kinds p 0 ≡ get_or (kinds_of (directory_of l.directory.count l.directory.bytes.now)) p 0)

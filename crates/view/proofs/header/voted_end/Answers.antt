@@ -7,5 +7,6 @@ use Rattle.view.proofs.header.voted_end.Goals as goal
 pub returns : goal.returns
 unfolding directory_bytes_of
 returns c =
-    let g = c.args in
-    omega (arith, offset_in g.n g.bytes.now g.i, words_in_lem g.n g.bytes.now g.i, c.entry_u32-offset.ensures, c.entry_u32-words.ensures)
+    let g = c.args.directory in
+    let i = c.args.i in
+    omega (arith, offset_in g.count g.bytes.now i, words_in_lem g.count g.bytes.now i, c.u32_at-offset.ensures, c.u32_at-words.ensures)

@@ -13,6 +13,8 @@ use Rattle.layout.specs.declared.Region.{Region}
 use Rattle.layout.specs.Regions.{region_of, as_entry}
 use Rattle.view.proofs.AnswersLaw.{found_some, found_none}
 use Rattle.view.proofs.EntriesForLaw.{ecc_short, ecc_none, ecc_past, ecc_there}
+use denote.Ref.{Bor}
+use Rattle.tables.specs.Answers.{as_place}
 use Rattle.view.proofs.regions.ecc_for.Goals as goal
 
 -- `view::regions::ecc_for` meets its contract. Assumes nothing.
@@ -32,26 +34,32 @@ module _ (n : ℕ) (x : List ℕ) (k : ℕ) (h : header_length n ≤ length x) (
       ap₂ (λ (i j : ℕ). Some (range i j)) (o ∙ ap (λ (r : Region). start (as_entry r)) plane.2) (q ∙ ends)
       ∙ sym (ecc_there n x k h plane.0 plane.1 (subst (λ (z : ℕ). z ≤ length x) (q ∙ ends) l))
 
-pub returns-then-bytes-header_length : goal.returns-then-bytes-header_length
-returns-then-bytes-header_length c = let g = c.args in sym (ecc_short g.header.region_count g.bytes.now g.region.kind (omega (arith, c.if-bytes-header_length.true, c.header_length.ensures)))
+pub returns-in_err-directory : goal.returns-in_err-directory
+returns-in_err-directory c =
+    let g = c.args in
+    ap as_place c.from_residual.ensures ∙ sym (ecc_short g.header.region_count g.bytes.now g.region.kind c.in_err-directory.ensures)
 
 pub returns-in_err-plane : goal.returns-in_err-plane
 returns-in_err-plane c =
-    let g = c.args in
-    let n = g.header.region_count in
-    let x = g.bytes.now in
-    rw c.from_residual.ensures
-    (sym (ecc_none n x g.region.kind (omega (arith, c.if-bytes-header_length.false, c.header_length.ensures)) (found_none (first_that (plane_for g.region.kind) (directory_of n x)) c.in_err-plane.ensures)))
+    let k = c.args.region.kind in
+    let d = c.in_ok-directory.directory in
+    let f = c.in_ok-directory.ensures in
+    ap as_place c.from_residual-in_err-plane.ensures
+    ∙ sym (ecc_none d.count d.bytes.now k d.fits (found_none (first_that (plane_for k) (directory_of d.count d.bytes.now)) c.in_err-plane.ensures))
+    ∙ ap₂ (λ (m : ℕ) (b : Bor (List ℕ)). ecc_for m b.now k) f.1 f.0
 
 pub returns-then-bytes-end : goal.returns-then-bytes-end
 returns-then-bytes-end c =
-    let g = c.args in
-    past_end g.header.region_count g.bytes.now g.region.kind (omega (arith, c.if-bytes-header_length.false, c.header_length.ensures)) c.in_ok-plane.plane (sym c.in_ok-plane.was ∙ c.plane_of.ensures) _ c.byte_end-end.ensures c.if-bytes-end.true
+    let k = c.args.region.kind in
+    let d = c.in_ok-directory.directory in
+    let f = c.in_ok-directory.ensures in
+    past_end d.count d.bytes.now k d.fits c.in_ok-plane.plane c.in_ok-plane.ensures _ c.byte_end-end.ensures (omega (arith, ap (λ (b : Bor (List ℕ)). length b.now) f.0, c.if-bytes-end.true))
+    ∙ ap₂ (λ (m : ℕ) (b : Bor (List ℕ)). ecc_for m b.now k) f.1 f.0
 
 pub returns : goal.returns
 returns c =
-    let g = c.args in
-    there g.header.region_count g.bytes.now g.region.kind (omega (arith, c.if-bytes-header_length.false, c.header_length.ensures)) c.in_ok-plane.plane (sym c.in_ok-plane.was ∙ c.plane_of.ensures) _ _ c.byte_offset.ensures c.byte_end-end.ensures c.if-bytes-end.false
-
-pub plane_of-requires : goal.plane_of-requires
-plane_of-requires c = omega arith
+    let k = c.args.region.kind in
+    let d = c.in_ok-directory.directory in
+    let f = c.in_ok-directory.ensures in
+    there d.count d.bytes.now k d.fits c.in_ok-plane.plane c.in_ok-plane.ensures _ _ c.byte_offset.ensures c.byte_end-end.ensures (omega (arith, ap (λ (b : Bor (List ℕ)). length b.now) f.0, c.if-bytes-end.false))
+    ∙ ap₂ (λ (m : ℕ) (b : Bor (List ℕ)). ecc_for m b.now k) f.1 f.0

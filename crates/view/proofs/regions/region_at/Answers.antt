@@ -1,21 +1,32 @@
-use mathlib.Core.Path.{sym, ap, ◌∙◌}
+use mathlib.Core.Path.{sym, ap, ap₂, ◌∙◌}
+use Prim.Native.Nat.{ℕ}
+use mathlib.Core.List.{List}
+use denote.Ref.{Bor}
 use native.Mathlib.Omega.{arith}
 use Rattle.std.specs.Prelude.{Some}
+use Rattle.model.specs.Views.{region_at}
 use Rattle.view.specs.Answers.{found_as}
 use Rattle.view.proofs.EntriesForLaw.{region_short, region_past, region_in}
 use Rattle.view.proofs.regions.region_at.Goals as goal
 
 -- `view::regions::region_at` meets its contract. Assumes nothing.
-pub returns-then-bytes-header_length : goal.returns-then-bytes-header_length
-returns-then-bytes-header_length c = let g = c.args in ap found_as (sym (region_short g.header.region_count g.bytes.now g.index (omega (arith, c.if-bytes-header_length.true, c.header_length.ensures))))
+pub returns-in_err-directory : goal.returns-in_err-directory
+returns-in_err-directory c =
+    let g = c.args in
+    c.from_residual.ensures ∙ ap found_as (sym (region_short g.header.region_count g.bytes.now g.index c.in_err-directory.ensures))
 
-pub returns-then-n-i : goal.returns-then-n-i
-returns-then-n-i c = let g = c.args in ap found_as (sym (region_past g.header.region_count g.bytes.now g.index (omega (arith, c.if-bytes-header_length.false, c.header_length.ensures)) c.if-n-i.true))
+pub returns-then-directory-index : goal.returns-then-directory-index
+returns-then-directory-index c =
+    let g = c.args in
+    let d = c.in_ok-directory.directory in
+    let f = c.in_ok-directory.ensures in
+    ap found_as (sym (region_past d.count d.bytes.now g.index d.fits c.if-directory-index.true))
+    ∙ ap₂ (λ (n : ℕ) (b : Bor (List ℕ)). found_as (region_at n b.now g.index)) f.1 f.0
 
 pub returns : goal.returns
 returns c =
     let g = c.args in
-    ap Some c.voted_region.ensures ∙ ap found_as (sym (region_in g.header.region_count g.bytes.now g.index (omega (arith, c.if-bytes-header_length.false, c.header_length.ensures)) c.if-n-i.false))
-
-pub voted_region-requires : goal.voted_region-requires
-voted_region-requires c = omega arith
+    let d = c.in_ok-directory.directory in
+    let f = c.in_ok-directory.ensures in
+    ap Some c.region.ensures ∙ ap found_as (sym (region_in d.count d.bytes.now g.index d.fits (omega (arith, c.if-directory-index.false))))
+    ∙ ap₂ (λ (n : ℕ) (b : Bor (List ℕ)). found_as (region_at n b.now g.index)) f.1 f.0

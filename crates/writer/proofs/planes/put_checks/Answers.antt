@@ -1,27 +1,26 @@
-use Rattle.std.proofs.Common.{ℕ, ◌+◌, ◌*◌, sym, ap, ◌∙◌, subst, arith}
-use Rattle.std.proofs.lemmas.List.Edits.{paste_more}
-use lib.ListN.{set}
+use Rattle.std.proofs.Common.{ap, ◌∙◌, arith}
+use Rattle.std.specs.Slice.Iter.{chunks_exact_rest, chunks_exact_size}
 use Rattle.model.specs.Parity.{check_of}
-use Rattle.model.specs.Writer.{checks}
 use Rattle.scalar.proofs.OrZero.{or_zero_in}
-use Rattle.lemmas.proofs.PlanCodewords.{length_checks, at_checks}
-use Rattle.put.specs.Put.{Put}
-use Rattle.put.proofs.PutLaw.{pasted}
+use Rattle.put.proofs.PutLaw.{kept_length}
+use Rattle.writer.proofs.ChecksLaw.{none_checked, check_room, check_put, all_checked}
 use Rattle.writer.proofs.planes.put_checks.Goals as goal
 
-pub loop-w-preserved : goal.loop-w-preserved
-loop-w-preserved c =
-    let g = c.args in
-    let l = c.loop-w in
-    let b = g.b.now in
-    let n = length_checks g.words b in
-    ap (set l.out (g.at + l.w)) (c.check_byte.ensures ∙ ap check_of (c.u64_or_zero.ensures ∙ or_zero_in 8 b (8 * l.w) (omega arith)) ∙ sym (at_checks g.words b l.w (omega arith)))
-    ∙ rw l.invariant (paste_more g.out.now g.at (checks g.words b) l.w 0 (omega arith) (omega arith))
+pub loop-word-init : goal.loop-word-init
+loop-word-init c =
+    let e = c.into_iter-word-iterator.ensures.into_iter_gives in
+    none_checked _ _ _ c.requires (ap chunks_exact_size e ∙ c.chunks_exact-word-items.ensures.size) (ap chunks_exact_rest e ∙ c.chunks_exact-word-items.ensures.rest)
+
+pub bounds-out-next : goal.bounds-out-next
+bounds-out-next c = let t = c.in-Some.ensures.steps.1 in check_room c.loop-word.invariant _ _ t.0 t.1
+
+pub loop-word-preserved : goal.loop-word-preserved
+loop-word-preserved c =
+    let t = c.in-Some.ensures.steps in
+    check_put c.loop-word.invariant _ _ t.1.0 t.1.1 (c.check_byte.ensures ∙ ap check_of (c.u64_or_zero.ensures ∙ or_zero_in 8 c.in-Some.word.now 0 (omega (arith, t.1.1, c.loop-word.invariant.eight)))) t.0
+
+pub shape_of-out : goal.shape_of-out
+shape_of-out c = kept_length _ _ _ c.loop-word.invariant.going
 
 pub returns : goal.returns
-returns c =
-    let g = c.args in
-    let l = c.loop-w in
-    let n = length_checks g.words g.b.now in
-    subst (λ (k : ℕ). Put g.out.now g.at (checks g.words g.b.now) (g.at + k) l.out) n
-    (pasted g.out.now (checks g.words g.b.now) g.at l.w (omega (arith, n)) (omega (arith, n, c.requires.room)) l.invariant)
+returns c = all_checked c.loop-word.invariant c.in-None.ensures.steps.1.0
