@@ -9,7 +9,7 @@ ghost use Rattle.put.specs.Put.{Put};
 
 use scalar::Number;
 
-// A loop, since `copy_from_slice` calls `memcpy`, and firmware may have no C library: the archive asks it for `memset` alone (tests/api.sh).
+// A loop, since `copy_from_slice` calls `memmove`, and firmware may have no C library: the archive asks for `memset` alone (tests/api.sh).
 #[tactic(auto, using(crate::proofs::PutLaw::pasted, std::proofs::lemmas::List::Edits::paste_more))]
 pub fn put_bytes(out: &mut [u8], at: usize, bytes: &[u8]) -> usize
     requires { at + length bytes.now ≤ length out.old }
