@@ -9,13 +9,13 @@ use layout::MAX_IMAGE_BYTES;
 fn mend_image(
     rt: &HostRuntime,
     name: &[u8],
-    target: &[u8],
-    in_place: bool,
+    output: Option<&[u8]>,
     image: &mut [u8],
 ) -> Result<u8, Gone> {
     let outcome = findings::mend_within(image, MAX_IMAGE_BYTES);
+    let in_place = output.is_none() && !arguments::is_standard(name);
     if exit_status::is_written(outcome, in_place) {
-        if !files::save(rt, target, image)? {
+        if !files::save(rt, output.unwrap_or(name), image)? {
             return Ok(FAILED);
         }
     }
@@ -30,8 +30,7 @@ fn mend_image(
 fn mend_read(
     rt: &HostRuntime,
     name: &[u8],
-    target: &[u8],
-    in_place: bool,
+    output: Option<&[u8]>,
     image: &mut [u8],
 ) -> Result<u8, Gone> {
     let input = files::read(rt, name, image)?;
@@ -39,19 +38,19 @@ fn mend_read(
         return Ok(FAILED);
     }
     let n = input.length;
-    mend_image(rt, name, target, in_place, &mut image[..n])
+    mend_image(rt, name, output, &mut image[..n])
 }
 
-fn mend_file(rt: &HostRuntime, name: &[u8], target: &[u8], in_place: bool) -> Result<u8, Gone> {
+fn mend_file(rt: &HostRuntime, name: &[u8], output: Option<&[u8]>) -> Result<u8, Gone> {
     match memory::room(rt.alloc()) {
-        Ok(mut image) => mend_read(rt, name, target, in_place, image.as_mut_slice()),
+        Ok(mut image) => mend_read(rt, name, output, image.as_mut_slice()),
         Err(_) => memory::lacking(rt),
     }
 }
 
 fn mend_into(rt: &HostRuntime, name: &[u8], output: usize) -> Result<u8, Gone> {
     match Argument::at(rt, output) {
-        Ok(target) => mend_file(rt, name, target.as_bytes(), false),
+        Ok(target) => mend_file(rt, name, Some(target.as_bytes())),
         Err(error) => {
             files::fail(rt, b"-o", error)?;
             Ok(FAILED)
@@ -60,11 +59,10 @@ fn mend_into(rt: &HostRuntime, name: &[u8], output: usize) -> Result<u8, Gone> {
 }
 
 fn mend_named(rt: &HostRuntime, name: &[u8], output: Option<usize>) -> Result<u8, Gone> {
-    if let Some(output) = output {
-        return mend_into(rt, name, output);
+    match output {
+        Some(output) => mend_into(rt, name, output),
+        None => mend_file(rt, name, None),
     }
-    let in_place = !arguments::is_standard(name);
-    mend_file(rt, name, name, in_place)
 }
 
 // Mends the file that argument `file` names, into the one that argument `output` names, or in place where there is none.

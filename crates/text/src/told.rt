@@ -14,6 +14,7 @@ use crate::line::{
 use ecc::EccReport;
 use findings::{Findings, Rejected};
 use mending::Mending;
+use paths::LONGEST_NAME;
 use put::put_bytes;
 
 fn put_prefix(out: &mut [u8], at: usize, name: &[u8], several: bool) -> usize
@@ -76,8 +77,6 @@ pub(crate) fn put_report(
         Err(_) => second,
     }
 }
-
-const LONGEST_NAME: usize = 4096;
 
 // The report's lines on a file, each behind the file's name where there are several.
 pub fn file_report(
