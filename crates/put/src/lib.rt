@@ -1,4 +1,5 @@
 // Bytes put into a lent buffer in address order. Each function starts at a place and gives the place right behind its bytes.
+// Buffer and place are two parameters: in a struct the buffer would be a `&mut` that every clause of every caller has to follow.
 // The caller has the room, and is proved to: a test in each of them would never be seen to fail. (docs/DECISIONS.md)
 #![tactic(auto)]
 
