@@ -9,6 +9,7 @@ ghost use Rattle.view.specs.Answers.{found_as};
 
 use crate::vote::Copies;
 use layout::{DIR_ENTRY_BYTES, DIRECTORY_OFFSET, FLAG_IS_ECC, Region, header_length};
+use scalar::Number;
 
 // `count` entries, whose copies all lie in the bytes.
 #[derive(Clone, Copy)]
@@ -39,20 +40,12 @@ impl<'a> Directory<'a> {
         }
     }
 
-    // The number in the two bytes from byte `field` on of entry i.
-    pub(crate) fn u16_at(self, i: usize, field: usize) -> u16
-        requires { (i < self.count) × (field + 2 ≤ 16) }
-        ensures { result ≡ read 2 (voted 48 (16 * self.entry.count) self.entry.bytes.now) (16 * i + field) }
+    // The number in the N bytes from byte `field` on of entry i.
+    pub(crate) fn number_at<T: Number<N>, const N: usize>(self, i: usize, field: usize) -> T
+        requires { (i < self.count) × (field + N ≤ 16) }
+        ensures { T.value result ≡ read N (voted 48 (16 * self.entry.count) self.entry.bytes.now) (16 * i + field) }
     {
-        self.copies().u16_at(DIR_ENTRY_BYTES * i + field)
-    }
-
-    // The number in the four bytes from byte `field` on of entry i.
-    pub(crate) fn u32_at(self, i: usize, field: usize) -> u32
-        requires { (i < self.count) × (field + 4 ≤ 16) }
-        ensures { result ≡ read 4 (voted 48 (16 * self.entry.count) self.entry.bytes.now) (16 * i + field) }
-    {
-        self.copies().u32_at(DIR_ENTRY_BYTES * i + field)
+        self.copies().number_at(DIR_ENTRY_BYTES * i + field)
     }
 
     // Entry i.
@@ -61,11 +54,11 @@ impl<'a> Directory<'a> {
         ensures { result ≡ region_of (entry_in self.entry.count self.entry.bytes.now i) }
     {
         Region {
-            kind: self.u16_at(i, 0),
-            flags: self.u16_at(i, 2),
-            word_offset: self.u32_at(i, 4),
-            word_length: self.u32_at(i, 8),
-            covers: self.u16_at(i, 12),
+            kind: self.number_at(i, 0),
+            flags: self.number_at(i, 2),
+            word_offset: self.number_at(i, 4),
+            word_length: self.number_at(i, 8),
+            covers: self.number_at(i, 12),
         }
     }
 
@@ -74,7 +67,7 @@ impl<'a> Directory<'a> {
         ensures { result ≡ found_as (first_that (plane_for kind) (directory_of self.entry.count self.entry.bytes.now)) }
     {
         for i in 0..self.count as usize {
-            if covers_kind(self.u16_at(i, 2), self.u16_at(i, 12), kind) {
+            if covers_kind(self.number_at(i, 2), self.number_at(i, 12), kind) {
                 return Some(self.region(i));
             }
         }

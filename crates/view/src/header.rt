@@ -71,20 +71,23 @@ fn check_prologue(bytes: &[u8]) -> Result<u16, Refusal>
         base: 0,
         len: PROLOGUE_BYTES,
     };
-    if prologue.u32_at(0) != MAGIC {
+    let magic: u32 = prologue.number_at(0);
+    if magic != MAGIC {
         return Err(Refusal::BadMagic);
     }
-    if prologue.u16_at(4) != BOM {
+    let order: u16 = prologue.number_at(4);
+    if order != BOM {
         return Err(Refusal::ForeignEndian);
     }
-    let version = prologue.u16_at(6);
+    let version: u16 = prologue.number_at(6);
     if version != FORMAT_VERSION {
         return Err(Refusal::UnsupportedVersion { found: version });
     }
-    if prologue.u32_at(12) != prologue.checksum() {
+    let checksum: u32 = prologue.number_at(12);
+    if checksum != prologue.checksum() {
         return Err(Refusal::BadPrologueChecksum);
     }
-    let n = prologue.u16_at(8);
+    let n: u16 = prologue.number_at(8);
     if n as usize > MAX_REGIONS {
         return Err(Refusal::TooManyRegions { found: n as usize });
     }
@@ -114,7 +117,7 @@ fn vote_kinds(directory: Directory, kinds: &mut [u16])
     ensures { kinds.new ≡ kinds_of (directory_of directory.entry.count directory.entry.bytes.now) }
 {
     for i in 0..directory.count as usize {
-        kinds[i] = directory.u16_at(i, 0);
+        kinds[i] = directory.number_at(i, 0);
     }
 }
 
@@ -141,8 +144,8 @@ fn voted_end(directory: Directory, i: usize) -> usize
     requires { i < directory.count }
     ensures { result ≡ end (entry_in directory.entry.count directory.entry.bytes.now i) }
 {
-    let offset = directory.u32_at(i, 4);
-    let words = directory.u32_at(i, 8);
+    let offset: u32 = directory.number_at(i, 4);
+    let words: u32 = directory.number_at(i, 8);
     WORD * (offset as usize + words as usize)
 }
 

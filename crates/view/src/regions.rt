@@ -26,7 +26,8 @@ pub fn find_region(bytes: &[u8], header: Header, kind: u16) -> Option<Region>
 {
     let directory = Directory::of(bytes, header.region_count)?;
     for i in 0..directory.count as usize {
-        if directory.u16_at(i, 0) == kind {
+        let found: u16 = directory.number_at(i, 0);
+        if found == kind {
             return Some(directory.region(i));
         }
     }

@@ -5,7 +5,7 @@ ghost use Rattle.model.specs.Crc as model;
 ghost use Rattle.model.specs.Layout.{voted, differs};
 ghost use Rattle.model.proofs.CopiesLaw.{off_at};
 
-use scalar::maj3;
+use scalar::{Number, maj3};
 
 // Three copies of `len` bytes each, the first from byte `base` on.
 #[derive(Clone, Copy)]
@@ -29,22 +29,24 @@ impl<'a> Copies<'a> {
         )
     }
 
-    // The number in the two voted bytes from p on.
-    pub(crate) fn u16_at(self, p: usize) -> u16
-        requires { p + 2 ≤ self.len }
-        ensures { result ≡ read 2 (voted self.entry.base self.entry.len self.entry.bytes.now) p }
+    // N bytes of the vote, from byte p on.
+    fn bytes_at<const N: usize>(self, p: usize) -> [u8; N]
+        requires { p + N ≤ self.len }
+        ensures { result ≡ take N (drop p (voted self.entry.base self.entry.len self.entry.bytes.now)) }
     {
-        u16::from_le_bytes([self.byte(p), self.byte(p + 1)])
+        let mut bytes = [0u8; N];
+        for j in 0..N {
+            bytes[j] = self.byte(p + j);
+        }
+        bytes
     }
 
-    // The number in the four voted bytes from p on.
-    pub(crate) fn u32_at(self, p: usize) -> u32
-        requires { p + 4 ≤ self.len }
-        ensures { result ≡ read 4 (voted self.entry.base self.entry.len self.entry.bytes.now) p }
+    // The number in the N voted bytes from p on.
+    pub(crate) fn number_at<T: Number<N>, const N: usize>(self, p: usize) -> T
+        requires { p + N ≤ self.len }
+        ensures { T.value result ≡ read N (voted self.entry.base self.entry.len self.entry.bytes.now) p }
     {
-        let low = self.u16_at(p);
-        let high = self.u16_at(p + 2);
-        low as u32 + 0x1_0000 * (high as u32)
+        T::from_bytes(self.bytes_at(p))
     }
 
     // Some copy of byte j differs from the vote.
@@ -79,10 +81,7 @@ impl<'a> Copies<'a> {
         requires { 12 ≤ self.len }
         ensures { result ≡ model.crc32 (take 12 (voted self.entry.base self.entry.len self.entry.bytes.now)) }
     {
-        let mut start = [0u8; 12];
-        for j in 0..12usize {
-            start[j] = self.byte(j);
-        }
+        let start: [u8; 12] = self.bytes_at(0);
         crc::crc32(&start)
     }
 }

@@ -17,9 +17,9 @@ loop-i-preserved c =
     let l = c.loop-i in
     let ks = kinds_of (directory_of g.count g.bytes.now) in (
       simp length-set l.invariant.0,
-      below_more (λ p. get_or (set l.kinds l.i c.u16_at.result) p 0 ≡ get_or ks p 0) l.i
-          (λ p h. get_or-set_other l.kinds l.i p c.u16_at.result 0 (omega arith) ∙ l.invariant.1 p h)
-          (get_or-set_same l.kinds l.i c.u16_at.result 0 (omega (arith, l.invariant.0)) ∙ c.u16_at.ensures
+      below_more (λ p. get_or (set l.kinds l.i c.number_at.result) p 0 ≡ get_or ks p 0) l.i
+          (λ p h. get_or-set_other l.kinds l.i p c.number_at.result 0 (omega arith) ∙ l.invariant.1 p h)
+          (get_or-set_same l.kinds l.i c.number_at.result 0 (omega (arith, l.invariant.0)) ∙ c.number_at.ensures
           ∙ sym (kind_read g.count g.bytes.now l.i (omega arith))),
     )
 

@@ -9,4 +9,4 @@ unfolding directory_bytes_of
 returns c =
     let g = c.args.directory in
     let i = c.args.i in
-    omega (arith, offset_in g.count g.bytes.now i, words_in_lem g.count g.bytes.now i, c.u32_at-offset.ensures, c.u32_at-words.ensures)
+    omega (arith, offset_in g.count g.bytes.now i, words_in_lem g.count g.bytes.now i, c.number_at-offset.ensures, c.number_at-words.ensures)

@@ -21,8 +21,8 @@ returns-in_err-directory c =
 pub loop-i-init : goal.loop-i-init
 loop-i-init c = refl
 
-pub returns-then-u16_at-kind : goal.returns-then-u16_at-kind
-returns-then-u16_at-kind c =
+pub returns-then-found-kind : goal.returns-then-found-kind
+returns-then-found-kind c =
     let k = c.args.kind in
     let d = c.in_ok-directory.directory in
     let f = c.in_ok-directory.ensures in
@@ -32,7 +32,7 @@ returns-then-u16_at-kind c =
     ap Some c.region.ensures
     ∙ ap found_as (sym (find_long n x k d.fits
     ∙ sym c.loop-i.invariant ∙ first_here (directory_of n x) i (entry_in n x i) (walk n x i (omega arith)) (of_kind k)
-    (kind_test n x i k c.u16_at.result c.u16_at.ensures c.if-u16_at-kind.true)))
+    (kind_test n x i k c.number_at-found.result c.number_at-found.ensures c.if-found-kind.true)))
     ∙ ap₂ (λ (m : ℕ) (b : Bor (List ℕ)). found_as (find_region m b.now k)) f.1 f.0
 
 pub loop-i-preserved : goal.loop-i-preserved
@@ -43,7 +43,7 @@ loop-i-preserved c =
     let x = d.bytes.now in
     let i = c.loop-i.i in
     first_next (directory_of n x) i (entry_in n x i) (walk n x i (omega arith)) (of_kind k)
-    (kind_test_not n x i k c.u16_at.result c.u16_at.ensures c.if-u16_at-kind.false) ∙ c.loop-i.invariant
+    (kind_test_not n x i k c.number_at-found.result c.number_at-found.ensures c.if-found-kind.false) ∙ c.loop-i.invariant
 
 pub returns : goal.returns
 returns c =

@@ -20,8 +20,8 @@ returns-then-covers_kind c =
     let x = g.bytes.now in
     ap Some c.region.ensures
     ∙ ap found_as (sym (sym c.loop-i.invariant ∙ first_here (directory_of g.count x) c.loop-i.i (entry_in g.count x c.loop-i.i) (walk g.count x c.loop-i.i (omega arith)) (plane_for k)
-    (plane_test g.count x c.loop-i.i k c.u16_at.result c.u16_at-in-loop-i.result c.covers_kind.result
-    c.u16_at.ensures c.u16_at-in-loop-i.ensures c.covers_kind.ensures ∙ c.if-covers_kind.true)))
+    (plane_test g.count x c.loop-i.i k c.number_at.result c.number_at-in-loop-i.result c.covers_kind.result
+    c.number_at.ensures c.number_at-in-loop-i.ensures c.covers_kind.ensures ∙ c.if-covers_kind.true)))
 
 pub loop-i-preserved : goal.loop-i-preserved
 loop-i-preserved c =
@@ -29,8 +29,8 @@ loop-i-preserved c =
     let k = c.args.kind in
     let x = g.bytes.now in
     first_next (directory_of g.count x) c.loop-i.i (entry_in g.count x c.loop-i.i) (walk g.count x c.loop-i.i (omega arith)) (plane_for k)
-    (plane_test g.count x c.loop-i.i k c.u16_at.result c.u16_at-in-loop-i.result c.covers_kind.result
-    c.u16_at.ensures c.u16_at-in-loop-i.ensures c.covers_kind.ensures ∙ c.if-covers_kind.false) ∙ c.loop-i.invariant
+    (plane_test g.count x c.loop-i.i k c.number_at.result c.number_at-in-loop-i.result c.covers_kind.result
+    c.number_at.ensures c.number_at-in-loop-i.ensures c.covers_kind.ensures ∙ c.if-covers_kind.false) ∙ c.loop-i.invariant
 
 pub returns : goal.returns
 returns c =

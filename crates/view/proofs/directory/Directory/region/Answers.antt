@@ -5,5 +5,5 @@ use Rattle.view.proofs.directory.Directory.region.Goals as goal
 pub returns : goal.returns
 returns c =
     let g = c.args.self in
-    region_read g.count g.bytes.now c.args.i c.u16_at.result c.u16_at-2.result c.u32_at.result c.u32_at-2.result c.u16_at-3.result
-    c.u16_at.ensures c.u16_at-2.ensures c.u32_at.ensures c.u32_at-2.ensures c.u16_at-3.ensures
+    region_read g.count g.bytes.now c.args.i c.number_at.result c.number_at-2.result c.number_at-3.result c.number_at-4.result c.number_at-5.result
+    c.number_at.ensures c.number_at-2.ensures c.number_at-3.ensures c.number_at-4.ensures c.number_at-5.ensures
