@@ -27,7 +27,8 @@ fn store_word(part: &mut [u8], word: u64)
     put_number(part, 0, word);
 }
 
-// Stores the check byte of a word, if asked to.
+// Stores the check byte of a word, if asked to. Here and below a flag says so, and no closure: the definitions take the flag too,
+// and the clauses of a closure would be those definitions again.
 fn store_check(table: CheckTable, bytes: &mut [u8], check: usize, word: u64, with_check: bool)
     requires { check < length bytes.old }
     ensures { bytes.new ≡ cond with_check (set bytes.old check (check_of word)) bytes.old }

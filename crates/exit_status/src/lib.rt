@@ -77,6 +77,7 @@ pub fn is_written(outcome: Result<Mending, Rejected>, in_place: bool) -> bool
     }
 }
 
+// A status is the byte that the system takes, and of two the higher counts: numbers, and no enum that would be turned into them.
 pub const FAILED: u8 = 3;
 
 pub fn status(verdict: Verdict) -> u8

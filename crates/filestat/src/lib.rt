@@ -4,7 +4,7 @@
 use std::fs::{File, Metadata};
 use std::os::unix::fs::MetadataExt;
 
-// A file that the system says nothing of has mode 0.
+// A file that the system says nothing of has mode 0, so that `about` can't fail: it is then no regular file, and is written to as it is.
 #[derive(Clone, Copy)]
 pub struct FileKind {
     pub mode: u32,

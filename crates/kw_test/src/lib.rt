@@ -21,7 +21,7 @@ mod reader;
 mod scans;
 mod values;
 
-// {1, the number}, or {0, 0} for nothing.
+// {1, the number}, or {0, 0} for nothing. C has no generic functions: here and below each size has a name of its own.
 #[unsafe(no_mangle)]
 pub extern "C" fn kwt_u8_at(b: &[u8], at: usize, answer: &mut [u64; 2])
     ensures { answer.new ≡ as_numbers (read_in 1 b.now at) }

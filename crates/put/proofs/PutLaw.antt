@@ -88,8 +88,3 @@ pub put_read : (o : List ℕ) (p : ℕ) (a : List ℕ) {r : ℕ} {o' : List ℕ}
 put_read o p a {r} {o'} h l =
     let e : r - p ≡ length a = omega (arith, h.behind) in
     ap₂ (λ (k : ℕ) (x : List ℕ). take k (drop p x)) e h.stored ∙ put_part o p a l
-
--- ---- three values at once: what came of a branch is what its arm made
-
-pub carry : {X Y : Type 0} (P : X → Y → ℕ → Type 0) {x x' : X} {y y' : Y} {z z' : ℕ} → x ≡ x' → y ≡ y' → z ≡ z' → P x' y' z' → P x y z
-carry {X} {Y} P {x} {x'} {y} {y'} {z} {z'} e f g h = subst (λ (u : X). P u y z) (sym e) (subst (λ (u : Y). P x' u z) (sym f) (subst (λ (u : ℕ). P x' y' u) (sym g) h))

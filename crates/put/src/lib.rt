@@ -1,4 +1,5 @@
 // Bytes put into a lent buffer in address order. Each function starts at a place and gives the place right behind its bytes.
+// Buffer and place are two parameters: in a struct the buffer would be a `&mut` that every clause of every caller has to follow.
 // The caller has the room, and is proved to: a test in each of them would never be seen to fail. (docs/DECISIONS.md)
 #![tactic(auto)]
 
@@ -9,7 +10,8 @@ ghost use Rattle.put.specs.Put.{Put};
 
 use scalar::Number;
 
-// A loop, since `copy_from_slice` calls `memcpy`, and firmware may have no C library: the archive asks it for `memset` alone (tests/api.sh).
+// A loop, since `copy_from_slice` calls `memmove`, and firmware may have no C library: the archive asks for `memset` alone (tests/api.sh).
+#[tactic(auto, using(crate::proofs::PutLaw::pasted, std::proofs::lemmas::List::Edits::paste_more))]
 pub fn put_bytes(out: &mut [u8], at: usize, bytes: &[u8]) -> usize
     requires { at + length bytes.now ≤ length out.old }
     ensures { Put out.old at bytes.now result out.new }
@@ -20,6 +22,7 @@ pub fn put_bytes(out: &mut [u8], at: usize, bytes: &[u8]) -> usize
     at + bytes.len()
 }
 
+#[tactic(auto, using(crate::proofs::PutLaw::came_back))]
 pub fn put_zeros(out: &mut [u8], at: usize, n: usize) -> usize
     requires { at + n ≤ length out.old }
     ensures { Put out.old at (replicate n 0) result out.new }

@@ -14,6 +14,7 @@ fn main(rt: HostRuntime) -> ExitCode {
     failure::exit_code(run(&rt))
 }
 
+// The program scrub has the same few lines: a crate for them would be no plainer.
 fn has_argument(rt: &HostRuntime) -> bool {
     !matches!(rt.arg(1, &mut []), Err(FillError::NotPresent))
 }

@@ -94,6 +94,7 @@ impl Number<8> for u64 {
 }
 
 // The number in the N bytes from `at` on. It is total: `None` where they reach past the end, at any offset.
+#[tactic(auto, using(crate::proofs::ReadLaw::outside, crate::proofs::ReadLaw::inside))]
 pub fn number_at<T: Number<N>, const N: usize>(b: &[u8], at: usize) -> Option<T>
     ensures { option_map T.value result ≡ read_in N b.now at }
 {

@@ -15,7 +15,8 @@ pub struct Input {
     pub failure: Option<Error>,
 }
 
-// Reads until the buffer is full or the input ends, however many bytes each read brings.
+// Reads until the buffer is full or the input ends, however many bytes each read brings. The loop is over `read`: std's `read_exact`
+// and `take` say too little of what came before an error.
 pub fn read_from<R: Read>(reader: &mut R, buffer: &mut [u8]) -> Input
     ensures fits { IsPrefixLen result.length buffer.new }
     ensures bytes { Consumes (R.remaining reader.old) (R.remaining reader.new) (take result.length buffer.new) }

@@ -1,4 +1,5 @@
-// Parts of an image, record tables and pools, after view.rs: plain functions on slices and numbers. (FORMAT 6)
+// Parts of an image, record tables and pools, after view.rs: plain functions on slices and numbers. The structs that hold bytes and
+// stride, with these as methods, are those of the crate borrowed. (FORMAT 6)
 #![tactic(auto)]
 
 ghost use Rattle.std.specs.Prelude.{◌≡◌, ◌≤◌, length, IfSome};

@@ -1,4 +1,5 @@
-// One line each, from a place on, without its line feed. Each function gives the place right behind its text.
+// One line each, from a place on, without its line feed. Each function gives the place right behind its text. They are no Display:
+// `fmt` ensures nothing that a proof can use, and every byte of a line is promised here.
 ghost use Rattle.std.specs.Prelude.{Some, ℕ, ◌+◌, ◌≤◌, length};
 ghost use Rattle.put.specs.Put.{Put};
 ghost use Rattle.model.specs.Programs.{line_feed, too_long_line, refused_line, regions_line, ecc_line, stored_line};
