@@ -51,6 +51,8 @@ impl<'a> CheckTable<'a> {
     }
 }
 
+// Here k is always the place of a byte in a word, below 8: a number that a loop counts, which a type would wrap and unwrap.
+
 // Entries 2^i to 2^(i+1) - 1 of place k: each is the entry 2^i below it, with the column of bit 8k + i put in. Sixteen are made at once.
 fn fill_bit(table: &mut [u8; 2048], k: usize, i: usize, column: u8)
     requires { (k < 8) × (i < 8) × (column ≡ at model.columns (8 * k + i)) × Filled (256 * k + 2 ^ i) table.old }

@@ -34,6 +34,7 @@ pub const MAX_IMAGE_BYTES: usize = 8_388_608;
 // The longest input that the programs look at.
 pub const MAX_INPUT_BYTES: usize = 65_536;
 
+// Bits of an entry's flags, a number of the format that is handed out as it stands: an image may have any.
 pub const FLAG_ENCRYPTED: u16 = 1 << 0;
 
 pub const FLAG_ECC_PRESENT: u16 = 1 << 1;

@@ -7,7 +7,7 @@ use native.Mathlib.Omega.{arith}
 use borrow.Author.Tests.{le-ltb}
 use lib.ListN.{length, take, drop, take-append-drop}
 use lib.Seq.{take_all}
-use Rattle.model.specs.Bytes.{Bytes}
+use Rattle.model.specs.Bytes.{Bytes, given}
 use Rattle.model.specs.Refusals.{fine, refuse}
 use Rattle.model.specs.Layout.{Entry, count, header_length, directory, directory_of}
 use Rattle.model.specs.Views.{nth, entries_for, region_at}
@@ -16,6 +16,7 @@ use Rattle.model.specs.Scrub.{visit_at}
 use Rattle.model.specs.Mend as model
 use Rattle.model.specs.Mend.{mend_verdict, fix_all, mend_bytes, changed, mend}
 use Rattle.model.proofs.LayoutLaw.{length_directory_of}
+use Rattle.model.specs.Steps.{any_of}
 use Rattle.model.proofs.ScanLaw.{codewords_append, scan_all, visits_append, visits_to}
 use Rattle.lemmas.specs.Steps.{mend_header, mend_words}
 use Rattle.lemmas.proofs.HeaderLaw.{SameHeader, header_kept, same_directory, same_visits}
@@ -176,13 +177,15 @@ module _ (x : List ℕ) (v : mend_verdict x ≡ fine) (b : Bytes x) where
       (e ∙ sym (header_keeps x v b).count≡ ∙ ap count (sym f), ap mend_verdict f ∙ header_verdict_lem x v b)
 
   -- it moves no examined word
-  pub header_scanned : scan (mend_header x) ≡ scan x
-  header_scanned =
-      scan_all (mend_header x)
-      ∙ ap₂ reported (same_visits (mend_header x) x (header_size x v b) (header_keeps x v b))
-      (ap (classes_at (mend_header x)) (header_codewords x v b)
-      ∙ classes_ext x (mend_header x) (codewords x) (λ q c m. (header_word x v b q c m, header_check x v b q c m)))
-      ∙ sym (scan_all x)
+  pub header_scanned : (any_of (visits (mend_header x)) ≡ any_of (visits x)) × (report (classes_at (mend_header x) (codewords (mend_header x))) ≡ report (classes_at x (codewords x)))
+  header_scanned = (
+    ap any_of (same_visits (mend_header x) x (header_size x v b) (header_keeps x v b)),
+    ap report (ap (classes_at (mend_header x)) (header_codewords x v b)
+    ∙ classes_ext x (mend_header x) (codewords x) (λ q c m. (header_word x v b q c m, header_check x v b q c m))),
+  )
+
+  pub header_scan : scan (mend_header x) ≡ scan x
+  header_scan = scan_all (mend_header x) ∙ ap₂ given header_scanned.0 header_scanned.1 ∙ sym (scan_all x)
 
   pub all_stored : (h w : ℕ) → h ≡ changed x (mend_header x) → w ≡ (or_zeros (scan x)).corrected → h + w ≡ changed x (mend_bytes x)
   all_stored h w e f =

@@ -67,6 +67,7 @@ fn vote_header(bytes: &mut [u8], header: Header) -> usize
 
 // `Mendable` stands in the clauses of each half, and in no type: a struct that lends the image would owe it at each write, and here
 // it is shown once for a half as a whole.
+
 // The header half. Where parse saw no copy that differs from the vote, there is nothing to write.
 pub(crate) fn mend_header(bytes: &mut [u8], header: Header) -> usize
     requires { Mendable header bytes.old × Tells header bytes.old }

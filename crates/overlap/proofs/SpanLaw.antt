@@ -3,7 +3,7 @@ use mathlib.Core.Path.{◌≡◌, refl, sym, ap, ap₂, ◌∙◌}
 use mathlib.Core.Bool.{Bool, true, false, not, ◌&&◌, ◌||◌, cond, or-true}
 use mathlib.Core.List.{List}
 use Rattle.std.specs.Prelude.{Option, None, Some, Ok}
-use Prim.Native.Nat.{ℕ, zero, suc, ◌+◌, ◌-◌, ◌*◌, ◌^◌, ◌≤◌, ◌<◌, max}
+use Prim.Native.Nat.{ℕ, zero, suc, ◌+◌, ◌-◌, ◌*◌, ◌^◌, ◌≤◌, ◌<◌, max, min}
 use native.Mathlib.Nat.{add-zero, le-max_left, le-max_right}
 use native.Mathlib.Decide.{dec_lt, ℕ_discrete}
 use native.Mathlib.Omega.{arith}
@@ -37,13 +37,20 @@ module _ (e : Entry) (h : 0 < e.words) where
   some_words : eqb e.words 0 ≡ false
   some_words = ne_eqb e.words 0 (λ z. omega arith)
 
-  pub last_is : e.offset + e.words - 1 < 4294967295 → last_word e ≡ e.offset + e.words - 1
+  last_is : e.offset + e.words - 1 < 4294967295 → last_word e ≡ e.offset + e.words - 1
   unfolding last_word
   last_is l = rw (some_words, lt-ltb (e.offset + e.words - 1) 4294967295 l)
 
-  pub last_large : 4294967295 ≤ e.offset + e.words - 1 → last_word e ≡ 4294967295
+  last_large : 4294967295 ≤ e.offset + e.words - 1 → last_word e ≡ 4294967295
   unfolding last_word
   last_large l = rw (some_words, le-ltb (e.offset + e.words - 1) 4294967295 l)
+
+  pub last_min : last_word e ≡ min (e.offset + e.words - 1) 4294967295
+  last_min = go (dec_lt (e.offset + e.words - 1) 4294967295)
+    where
+      go : Dec (e.offset + e.words - 1 < 4294967295) → last_word e ≡ min (e.offset + e.words - 1) 4294967295
+      go (yes s) = omega (arith, last_is s)
+      go (no s) = omega (arith, last_large (omega arith))
 
   -- a number of 32 bits lies before the region's end if it is no larger
   before_end : (a : ℕ) → a < 2 ^ 32 → leb a (last_word e) ≡ ltb a (e.offset + e.words)

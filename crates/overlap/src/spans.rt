@@ -77,12 +77,7 @@ pub(crate) fn last_word(region: Region) -> u32
     if region.word_length == 0 {
         return 0;
     }
-    let last = end_word(region) - 1;
-    if last < 4294967295 {
-        last as u32
-    } else {
-        4294967295
-    }
+    usize::min(end_word(region) - 1, u32::MAX as usize) as u32
 }
 
 // The word past a region.

@@ -103,7 +103,7 @@ pub fn number_at<T: Number<N>, const N: usize>(b: &[u8], at: usize) -> Option<T>
     Some(T::from_bytes(*bytes))
 }
 
-// The word at `at`, and 0 where it would reach past the end: for a caller that knows that it doesn't.
+// The word at `at`, and 0 where it would reach past the end, as docs/PROMISES.md says: for a caller that knows that it doesn't.
 pub fn u64_or_zero(b: &[u8], at: usize) -> u64
     ensures { result ≡ unwrap_or (read_in 8 b.now at) 0 }
 {

@@ -3,7 +3,7 @@ use mathlib.Core.Path.{◌≡◌, refl, sym, ap, ap₂, ◌∙◌, subst}
 use mathlib.Core.Bool.{Bool, true, false, ◌||◌, or-false, or-true}
 use mathlib.Core.List.{List, [], ◌∷◌}
 use Rattle.std.specs.Prelude.{Option, None, Some}
-use Prim.Native.Nat.{ℕ, suc}
+use Prim.Native.Nat.{ℕ, suc, ◌≤◌}
 use native.Mathlib.Omega.{arith}
 use lib.ListN.{length}
 use borrow.Author.Tests.{le-ltb}
@@ -56,27 +56,47 @@ words_counted (p ∷ ps) t x s k =
     subst (λ (z : Report). Counted z (correct_all false ps y) (scrub_words ps (scrub_word p s))) (count_next t (class_at x p) (word_at x p.word) (met false y ps))
     (words_counted ps (plus t (report_on (outcome_as (class_at x p) (word_at x p.word)))) y (scrub_word p s) (word_counted t x p s k))
 
--- ---- where no word is corrected, nothing is written
+-- ---- where nothing more is counted as corrected, nothing is written
+
+pub corrections : State → ℕ
+corrections s = total is_corrected s.met
+
+words_grow : (ps : List Codeword) (s : State) → corrections s ≤ corrections (scrub_words ps s)
+unfolding scrub_words scrub_word corrections total
+words_grow [] s = omega arith
+words_grow (p ∷ ps) s = omega (arith, words_grow ps (scrub_word p s))
 
 kept_class : (k : Class) (p : Codeword) (x : List ℕ) → is_corrected k ≡ 0 → stored_word k p x ≡ x
 kept_class clean p x e = refl
 kept_class (flipped i) p x e = absurd (omega arith)
 kept_class uncorrectable p x e = refl
 
-none_written : (ps : List Codeword) (x : List ℕ) → (report (met false x ps)).corrected ≡ 0 → correct_all false ps x ≡ x
-unfolding met correct_all correct_at report total
-none_written [] x e = refl
-none_written (p ∷ ps) x e =
-    let y = stored_word (class_at x p) p x in
-    let z : is_corrected (class_at x p) ≡ 0 = omega arith in
-    let h : (report (met false y ps)).corrected ≡ 0 = omega arith in
-    none_written ps y h ∙ kept_class (class_at x p) p x z
+words_same : (ps : List Codeword) (s : State) → corrections (scrub_words ps s) ≡ corrections s → (scrub_words ps s).image ≡ s.image
+unfolding scrub_words scrub_word corrections total
+words_same [] s e = refl
+words_same (p ∷ ps) s e =
+    let g = words_grow ps (scrub_word p s) in
+    let z : is_corrected (class_at s.image p) ≡ 0 = omega arith in
+    let h : corrections (scrub_words ps (scrub_word p s)) ≡ corrections (scrub_word p s) = omega arith in
+    words_same ps (scrub_word p s) h ∙ kept_class (class_at s.image p) p s.image z
+
+-- a report counts what its state corrected
+counted_by : (o : Option Report) (x : List ℕ) (s : State) → Stands o x s → (or_zeros o).corrected ≡ corrections s
+unfolding corrections report total
+counted_by o x s k = ap (λ (q : Option Report). (or_zeros q).corrected) k.counts ∙ go s.visited s.met k.unvisited
+  where
+    go : (t : Bool) (ms : List Class) → (t ≡ false → ms ≡ []) → (or_zeros (given t (report ms))).corrected ≡ total is_corrected ms
+    go true ms f = refl
+    go false ms f = sym (ap (total is_corrected) (f refl))
+
+-- the state before any region
+abbrev pub fresh : List ℕ → State
+fresh x = record { image = x; met = []; visited = false }
+
+pub start_stands : (x : List ℕ) → Stands None x (fresh x)
+start_stands x = record { image = refl; counts = refl; unvisited = λ e. refl }
 
 -- ---- region i
-
-no_counts : (vs : List Visit) (ks : List Class) → (vs ≡ [] → ks ≡ []) → (or_zeros (scan.reported vs ks)).corrected ≡ 0 → (report ks).corrected ≡ 0
-no_counts [] ks f e = ap (λ (ls : List Class). (report ls).corrected) (f refl) ∙ ap (λ (r : Report). r.corrected) report_none
-no_counts (v ∷ vs) ks f e = e
 
 -- a region without a visit meets no word
 no_words : (vs : List Visit) (s : State) (x : List ℕ) → (s.visited ≡ false → s.met ≡ []) → s.visited || any_of vs ≡ false
@@ -117,13 +137,20 @@ module _ (n i : ℕ) where
       })
 
   -- it writes nothing where it corrects nothing
+  pub region_same : (s : State) → corrections (scrub_in n i s) ≡ corrections s → (scrub_in n i s).image ≡ s.image
+  unfolding scrub_in corrections
+  region_same s e =
+      let vs = visits_at n s.image i in
+      let q = visits_words vs s in
+      ap (λ (t : State). t.image) q ∙ words_same (codewords_in vs) (mark (any_of vs) s) (sym (ap corrections q) ∙ e)
+
   pub image_same : (x y : List ℕ) (r : Option Report)
       → r ≡ scan.reported (visits_at n x i) (met false x (codewords_in (visits_at n x i))) → y ≡ correct_all false (codewords_in (visits_at n x i)) x
       → (or_zeros r).corrected ≡ 0 → y ≡ x
   image_same x y r e f z =
-      let vs = visits_at n x i in
-      f ∙ none_written (codewords_in vs) x (no_counts vs (met false x (codewords_in vs)) (λ q. none_met false x (codewords_in vs) (none_there vs q).1)
-      (ap (λ (o : Option Report). (or_zeros o).corrected) (sym e) ∙ z))
+      let s = fresh x in
+      let k = region_stands None x s (start_stands x) r y e f in
+      k.image ∙ region_same s (sym (counted_by r y (scrub_in n i s) k) ∙ z ∙ counted_by None x s (start_stands x))
 
 -- ---- the whole
 
@@ -151,6 +178,3 @@ pub scrub_starts : (x : List ℕ) → parse_verdict x ≡ fine
     → scrub x ≡ scrub_from (count x) 0 (record { image = x; met = []; visited = false })
 unfolding scrub
 scrub_starts x h = rw h
-
-pub start_stands : (x : List ℕ) → Stands None x (record { image = x; met = []; visited = false })
-start_stands x = record { image = refl; counts = refl; unvisited = λ e. refl }

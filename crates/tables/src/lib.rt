@@ -1,5 +1,6 @@
 // Parts of an image, record tables and pools, after view.rs: plain functions on slices and numbers. The structs that hold bytes and
-// stride, with these as methods, are those of the crate borrowed. (FORMAT 6)
+// stride, with these as methods, are those of the crate borrowed. Where there is no such part, `VeryPartOf` and `VeryPartIn` promise
+// the empty slice at the bytes' front, and so nobody has to take an Option apart to read nothing. (FORMAT 6)
 #![tactic(auto)]
 
 ghost use Rattle.std.specs.Prelude.{◌≡◌, ◌≤◌, length, IfSome};

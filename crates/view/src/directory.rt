@@ -11,7 +11,7 @@ use crate::vote::Copies;
 use layout::{DIR_ENTRY_BYTES, DIRECTORY_OFFSET, FLAG_IS_ECC, Region, header_length};
 use scalar::Number;
 
-// `count` entries, whose copies all lie in the bytes.
+// `count` entries, whose copies all lie in the bytes. That parse found at most 1,024 is no field: a lookup takes any header.
 #[derive(Clone, Copy)]
 pub(crate) struct Directory<'a> {
     pub(crate) bytes: &'a [u8],

@@ -1,4 +1,5 @@
-// Lookups on bytes and a header that stands beside them, any pair. (FORMAT 6)
+// Lookups on bytes and a header that stands beside them. Each clause is of any pair of the two, also where the header was read off
+// other bytes, so no struct holds both. (FORMAT 6)
 ghost use Rattle.std.specs.Prelude.{◌≡◌};
 ghost use Rattle.model.specs.Views.{region_at, find_region, ecc_for};
 ghost use Rattle.tables.specs.Answers.{as_place};

@@ -15,7 +15,7 @@ use Rattle.ecc.specs.declared.EccReport.{EccReport}
 use Rattle.scan.specs.Answers.{as_scan}
 use Rattle.scan.specs.Tally.{or_zeros}
 use Rattle.mending.proofs.VoteLaw.{changed_most}
-use Rattle.mending.proofs.MendingLaw.{after_header, mended_all, header_scanned, all_stored, mend_fine}
+use Rattle.mending.proofs.MendingLaw.{after_header, mended_all, header_scan, all_stored, mend_fine}
 use Rattle.mending.proofs.mend_apart.Goals as goal
 
 -- `mending::mend_apart` meets its contract. Assumes nothing.
@@ -34,7 +34,7 @@ corrected_in (Some r) d h = ap (λ (q : EccReport). q.corrected) h
 -- header bytes and corrected words make up what is stored
 module _ (x y : List ℕ) (v : mend_verdict x ≡ fine) (b : Bytes x) (h : ℕ) (e : y ≡ mend_header x) (n : h ≡ changed x y) (o : Option EccReport) (f : as_scan o ≡ scan y) where
   as_scanned : as_scan o ≡ scan x
-  as_scanned = f ∙ ap scan e ∙ header_scanned x v b
+  as_scanned = f ∙ ap scan e ∙ header_scan x v b
 
   stored : (d : EccReport) → d.corrected ≡ (or_zeros (as_scan o)).corrected → h + d.corrected ≡ changed x (mend_bytes x)
   stored d z = all_stored x v b h d.corrected (n ∙ ap (changed x) e) (z ∙ ap (λ (p : Option Report). (or_zeros p).corrected) as_scanned)
