@@ -10,13 +10,16 @@ use native.Mathlib.Omega.{arith}
 use Rattle.model.specs.Refusals.{fine}
 use Rattle.model.specs.Layout.{count}
 use Rattle.model.specs.Parse.{parse_verdict}
-use Rattle.model.specs.Scan.{Report}
+use Rattle.model.specs.Scan.{Report, codewords_in}
 use Rattle.model.specs.Scrub.{State, Scrubbed, scrub_from, reported}
 use Rattle.model.specs.Scrub as model
 use Rattle.view.specs.declared.header.Header.{Header}
 use Rattle.view.proofs.AnswersLaw.{parsed_fine, parsed_count, parsed_refused}
 use Rattle.scan.specs.Answers.{as_scan}
+use Rattle.scan.specs.Tally as scan
 use Rattle.scan.specs.Tally.{or_zeros, Bounded}
+use Rattle.scan.specs.Runs.{visits_at}
+use Rattle.correcting.specs.Correct.{correct_all, met}
 use Rattle.scan.proofs.TallyLaw.{together_words, bounded_given}
 use Rattle.scrubbing.specs.Stands.{Stands, scrub_in}
 use Rattle.scrubbing.proofs.ScrubbingLaw.{region_stands, image_same, region_is, from_next, from_failed, from_done, scrub_failed, scrub_starts, start_stands}
@@ -28,6 +31,12 @@ use Rattle.scrubbing.proofs.scrub.Goals.{then-written+in-Ok-parse, else-written}
 none_wanted : (o : Option EccReport) (t : Bool) → MatchOption o (t ≡ false) (λ r. t ≡ ltb 0 r.corrected) → t ≡ false → (or_zeros (as_scan o)).corrected ≡ 0
 none_wanted None t h e = refl
 none_wanted (Some r) t h e = omega (arith, ltb-false 0 r.corrected (sym h ∙ e))
+
+-- where nothing was corrected, the image parses as it did
+still : (n i : ℕ) (x y : List ℕ) (h : Header) (r : Option Report) → Checked x h
+    → r ≡ scan.reported (visits_at n x i) (met false x (codewords_in (visits_at n x i))) → y ≡ correct_all false (codewords_in (visits_at n x i)) x
+    → (or_zeros r).corrected ≡ 0 → Checked y h
+still n i x y h r k e f z = subst (λ (w : List ℕ). Checked w h) (sym (image_same n i x y r e f z)) k
 
 -- a turn: region i is scrubbed in an image that is known to parse
 module _ (x₀ : List ℕ) (n i : ℕ) (o o' : Option Report) (x y : List ℕ) (h : Header) (k : Checked x h) (l : i < n) (g : Goes x₀ n i o x)
@@ -126,7 +135,7 @@ loop-i-preserved c =
       omega (arith, f.auto.bytes),
       omega (arith, ap (λ (z : Option Report). (or_zeros z).words) c.together-total.ensures, together_words o r, l.invariant.1, f.ensures.few),
       turn g.bytes.now n l.i o (as_scan c.together-total.result) x y h ready (omega arith) l.invariant.2 e,
-      λ w. subst (λ (z : List ℕ). Checked z h) (sym (image_same h.region_count l.i x y r f.ensures.tells f.ensures.leaves (none_wanted f.result c.is_some_and-written.result c.is_some_and-written.ensures w))) ready,
+      λ w. still h.region_count l.i x y h r ready f.ensures.tells f.ensures.leaves (none_wanted f.result c.is_some_and-written.result c.is_some_and-written.ensures w),
     )
 
 pub shape_of-bytes : goal.shape_of-bytes
