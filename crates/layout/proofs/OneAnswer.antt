@@ -1,5 +1,4 @@
 -- No two answers fit one promise. Assumes nothing.
-use mathlib.Core.Path.{◌≡◌}
 use Rattle.model.proofs.OneAnswer.{OneAnswer, agree}
 use Rattle.layout.proofs.Region.byte_offset.Reads as byte-offset
 use Rattle.layout.proofs.Region.byte_length.Reads as byte-length

@@ -1,5 +1,5 @@
 -- A checked sum is the model's test. Assumes nothing.
-use Rattle.std.proofs.Common.{◌≡◌, ℕ, ◌<◌, ap, sym, arith, Option, Some, None}
+use Rattle.std.proofs.Common.{◌≡◌, ℕ, ◌<◌, ap, arith, Option, Some, None}
 use Rattle.std.specs.Option.{SomeIff}
 use borrow.Author.Tests.{lt-ltb, le-ltb}
 use lib.Dec.{ltb}

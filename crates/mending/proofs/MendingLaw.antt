@@ -181,7 +181,7 @@ module _ (x : List ℕ) (v : mend_verdict x ≡ fine) (b : Bytes x) where
   header_scanned = (
     ap any_of (same_visits (mend_header x) x (header_size x v b) (header_keeps x v b)),
     ap report (ap (classes_at (mend_header x)) (header_codewords x v b)
-    ∙ classes_ext x (mend_header x) (codewords x) (λ q c m. (header_word x v b q c m, header_check x v b q c m))),
+        ∙ classes_ext x (mend_header x) (codewords x) (λ q c m. (header_word x v b q c m, header_check x v b q c m))),
   )
 
   pub header_scan : scan (mend_header x) ≡ scan x
