@@ -88,7 +88,7 @@ pub fn file_report(
     ensures leaves { out.new ≡ sets out.old 0 (file_report name.now several (as_found found)) }
     ensures fits { IsPrefixLen result out.new }
 {
-    // 0, and no None: `file_report-is` says the length for such a name too.
+    // 0, and no None: the clause `is` says the length for such a name too.
     if name.len() > LONGEST_NAME {
         return 0;
     }
