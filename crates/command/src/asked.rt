@@ -2,6 +2,7 @@
 ghost use Rattle.std.specs.Prelude.{◌≤◌, length};
 
 use arguments::{Invocation, Word};
+use failure::Gone;
 use std::env::FillError;
 use std::io::Error;
 use std::rt::Env;
@@ -9,7 +10,8 @@ use std::rt::Env;
 // The system's number for a name that is too long, ENAMETOOLONG.
 const TOO_LONG: i32 = 36;
 
-// The bytes of an argument, at the start of memory for the longest name.
+// The bytes of an argument, at the start of memory for the longest name. That is an array, and no Vec: no heap is needed to read the arguments,
+// so that what is wrong with them is said also where the system gives no memory.
 #[derive(Drop)]
 pub(crate) struct Argument {
     memory: [u8; 4096],
@@ -27,11 +29,23 @@ impl Argument {
         }
     }
 
+    // Argument i, and none where it is too long, which is said of `what`.
+    pub(crate) fn told(rt: &HostRuntime, i: usize, what: &[u8]) -> Result<Option<Argument>, Gone> {
+        match Argument::at(rt, i) {
+            Ok(argument) => Ok(Some(argument)),
+            Err(error) => {
+                files::fail(rt, what, error)?;
+                Ok(None)
+            }
+        }
+    }
+
     pub(crate) fn as_bytes(&self) -> &[u8] {
         &self.memory[..self.len]
     }
 }
 
+// Three programs ask so, and each has its three lines: a public function needs a clause that a wrong body breaks, and none can say what the system gave.
 fn is_given(rt: &HostRuntime, i: usize) -> bool {
     !matches!(rt.arg(i, &mut []), Err(FillError::NotPresent))
 }

@@ -49,12 +49,9 @@ fn mend_file(rt: &HostRuntime, name: &[u8], output: Option<&[u8]>) -> Result<u8,
 }
 
 fn mend_into(rt: &HostRuntime, name: &[u8], output: usize) -> Result<u8, Gone> {
-    match Argument::at(rt, output) {
-        Ok(target) => mend_file(rt, name, Some(target.as_bytes())),
-        Err(error) => {
-            files::fail(rt, b"-o", error)?;
-            Ok(FAILED)
-        }
+    match Argument::told(rt, output, b"-o")? {
+        Some(target) => mend_file(rt, name, Some(target.as_bytes())),
+        None => Ok(FAILED),
     }
 }
 
@@ -67,11 +64,8 @@ fn mend_named(rt: &HostRuntime, name: &[u8], output: Option<usize>) -> Result<u8
 
 // Mends the file that argument `file` names, into the one that argument `output` names, or in place where there is none.
 pub(crate) fn mend(rt: &HostRuntime, file: usize, output: Option<usize>) -> Result<u8, Gone> {
-    match Argument::at(rt, file) {
-        Ok(name) => mend_named(rt, name.as_bytes(), output),
-        Err(error) => {
-            files::fail(rt, b"FILE", error)?;
-            Ok(FAILED)
-        }
+    match Argument::told(rt, file, b"FILE")? {
+        Some(name) => mend_named(rt, name.as_bytes(), output),
+        None => Ok(FAILED),
     }
 }

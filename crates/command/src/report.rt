@@ -5,6 +5,7 @@ use exit_status::FAILED;
 use failure::Gone;
 use layout::MAX_IMAGE_BYTES;
 
+// `several` goes along here as the public function `text::file_report`, and its definition, take it.
 fn report_image(rt: &HostRuntime, name: &[u8], image: &[u8], several: bool) -> Result<u8, Gone> {
     let found = findings::look(image, MAX_IMAGE_BYTES);
     let mut lines = [0u8; 8448];
@@ -30,29 +31,10 @@ fn report_argument(
     image: &mut [u8],
     several: bool,
 ) -> Result<u8, Gone> {
-    match Argument::at(rt, i) {
-        Ok(name) => report_file(rt, name.as_bytes(), image, several),
-        Err(error) => {
-            files::fail(rt, b"FILE", error)?;
-            Ok(FAILED)
-        }
+    match Argument::told(rt, i, b"FILE")? {
+        Some(name) => report_file(rt, name.as_bytes(), image, several),
+        None => Ok(FAILED),
     }
-}
-
-// The status so far, with that of argument i if it is a file.
-fn report_if(
-    rt: &HostRuntime,
-    is_file: bool,
-    i: usize,
-    image: &mut [u8],
-    several: bool,
-    status: u8,
-) -> Result<u8, Gone> {
-    if is_file {
-        let next = report_argument(rt, i, image, several)?;
-        return Ok(exit_status::higher(status, next));
-    }
-    Ok(status)
 }
 
 fn report_all(rt: &HostRuntime, image: &mut [u8], count: usize, several: bool) -> Result<u8, Gone> {
@@ -60,8 +42,10 @@ fn report_all(rt: &HostRuntime, image: &mut [u8], count: usize, several: bool) -
     let mut status: u8 = 0;
     for i in 1..count {
         let word = crate::asked::word_at(rt, i);
-        let is_file = arguments::reports_on(invocation, word);
-        status = report_if(rt, is_file, i, image, several, status)?;
+        if arguments::reports_on(invocation, word) {
+            let next = report_argument(rt, i, image, several)?;
+            status = exit_status::higher(status, next);
+        }
         invocation = arguments::step(invocation, i, word);
     }
     Ok(status)

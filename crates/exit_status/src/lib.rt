@@ -32,10 +32,7 @@ impl From<Rejected> for Verdict {
 fn is_damaged(report: Option<EccReport>) -> bool
     ensures { result ≡ damaged_in (as_scan report) }
 {
-    match report {
-        Some(counts) => counts.corrected > 0 || counts.uncorrectable > 0,
-        None => false,
-    }
+    report.is_some_and(|counts| counts.corrected > 0 || counts.uncorrectable > 0)
 }
 
 fn verdict_if(damaged: bool) -> Verdict

@@ -25,7 +25,7 @@ pub fn fail(rt: &HostRuntime, name: &[u8], error: Error) -> Result<(), Gone> {
     failure::say(&mut rt.stderr(), &text[..k], error)
 }
 
-// Whether that went well, and why not, said.
+// Whether that went well, and why not, said. The public functions `print` and `save` answer this bool, so here it is no Result in a Result.
 pub(crate) fn told(rt: &HostRuntime, name: &[u8], done: Result<(), Error>) -> Result<bool, Gone> {
     match done {
         Ok(()) => Ok(true),
@@ -41,7 +41,7 @@ pub fn print(rt: &HostRuntime, text: &[u8]) -> Result<bool, Gone> {
     told(rt, b"standard output", rt.stdout().write_all(text))
 }
 
-// The image's memory is lent, and used again for the next file, so what is read is a length in it.
+// The image's memory is lent, and used again for the next file, so what is read is a length in it: the clause of the public function `read` says so.
 fn read_open<R: Read>(
     rt: &HostRuntime,
     file: &mut R,

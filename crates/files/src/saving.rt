@@ -51,30 +51,30 @@ fn remove(rt: &HostRuntime, name: &[u8]) -> Result<(), Error> {
     rt.remove_file(path(name)?)
 }
 
+// The file to replace, what the system says of it, and what its place is to hold.
+#[derive(Clone, Copy)]
+struct Replacing<'a> {
+    target: &'a [u8],
+    about: FileKind,
+    image: &'a [u8],
+}
+
 fn fill_and_rename(
     rt: &HostRuntime,
     file: File,
     beside: &[u8],
-    target: &[u8],
-    about: FileKind,
-    image: &[u8],
+    new: Replacing<'_>,
 ) -> Result<(), Error> {
-    fill(file, about, image)?;
-    rename(rt, beside, target)?;
-    sync_folder(rt, target);
+    fill(file, new.about, new.image)?;
+    rename(rt, beside, new.target)?;
+    sync_folder(rt, new.target);
     Ok(())
 }
 
 // Leaves no file of its own where it fails.
-fn replace_by(
-    rt: &HostRuntime,
-    beside: &mut [u8],
-    target: &[u8],
-    about: FileKind,
-    image: &[u8],
-) -> Result<(), Error> {
+fn replace_by(rt: &HostRuntime, beside: &mut [u8], new: Replacing<'_>) -> Result<(), Error> {
     let file = beside::create(rt, beside)?;
-    let replaced = fill_and_rename(rt, file, beside, target, about, image);
+    let replaced = fill_and_rename(rt, file, beside, new);
     if replaced.is_err() {
         let _ = remove(rt, beside);
     }
@@ -82,10 +82,10 @@ fn replace_by(
 }
 
 // Writes the image beside target and renames it over it.
-fn replace(rt: &HostRuntime, target: &[u8], about: FileKind, image: &[u8]) -> Result<(), Error> {
+fn replace(rt: &HostRuntime, new: Replacing<'_>) -> Result<(), Error> {
     let mut beside = [0u8; 8192];
-    let n = paths::temporary(target, &mut beside);
-    replace_by(rt, &mut beside[..n], target, about, image)
+    let n = paths::temporary(new.target, &mut beside);
+    replace_by(rt, &mut beside[..n], new)
 }
 
 fn replace_resolved(
@@ -94,7 +94,13 @@ fn replace_resolved(
     about: FileKind,
     image: &[u8],
 ) -> Result<(), Error> {
-    replace(rt, resolved(rt, name)?.as_bytes(), about, image)
+    let target = resolved(rt, name)?;
+    let new = Replacing {
+        target: target.as_bytes(),
+        about,
+        image,
+    };
+    replace(rt, new)
 }
 
 // A device or a pipe is written to, and not replaced.

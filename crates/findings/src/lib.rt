@@ -62,8 +62,5 @@ pub fn mend_within(image: &mut [u8], limit: usize) -> Result<Mending, Rejected>
 pub fn uncorrectable_in(report: Option<EccReport>) -> usize
     ensures { result ≡ uncorrectable_in (as_scan report) }
 {
-    match report {
-        Some(counts) => counts.uncorrectable,
-        None => 0,
-    }
+    report.unwrap_or_default().uncorrectable
 }

@@ -1,5 +1,6 @@
 // The names of the files that the command writes, and a name as it is shown. Each is put at the start of out, and its length given. (FORMAT 14)
 // The buffer is lent, with its length beside it, since nothing here uses the heap and the clauses of each function say what every byte of it becomes.
+// For a name that is too long too: the clauses `is` of `temporary` and `followed` say 0, and of `subject` the length of "kw", so no function answers an Option.
 #![tactic(auto, using(put::proofs::PutLaw::sets_append), unfolding(model::specs::Programs::text))]
 
 ghost use Rattle.std.specs.Prelude.{◌≡◌, ◌++◌, ◌+◌, ◌≤◌, length};

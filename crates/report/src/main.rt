@@ -14,7 +14,7 @@ fn main(rt: HostRuntime) -> ExitCode {
     failure::exit_code(run(&rt))
 }
 
-// The program scrub has the same few lines: a crate for them would be no plainer.
+// The program scrub and the command have these lines too: a public function needs a clause that a wrong body breaks, and none can say what the system gave.
 fn has_argument(rt: &HostRuntime) -> bool {
     !matches!(rt.arg(1, &mut []), Err(FillError::NotPresent))
 }

@@ -8,7 +8,8 @@ ghost use Rattle.io.specs.Counts.{IsPrefixLen};
 
 use std::io::{Error, Read};
 
-// The bytes read, from the start of the buffer on, and why a read failed before the input's end, if one did.
+// The bytes read, from the start of the buffer on, and why a read failed before the input's end, if one did. The buffer is the caller's, since
+// the programs have no heap, and the clauses of `read_from` speak of the bytes that it holds also where a read failed: no Result, whose Err has none.
 #[derive(Drop)]
 pub struct Input {
     pub length: usize,

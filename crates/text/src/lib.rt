@@ -1,4 +1,5 @@
 // What the programs and the command print of an image, made in a buffer of the caller's. (FORMAT 11, 14)
+// The buffer is lent, with its length as the answer, since nothing here uses the heap and the clauses of each public function say what every byte of it becomes.
 #![tactic(auto)]
 
 mod line;

@@ -2,8 +2,8 @@
 // `fmt` ensures nothing that a proof can use, and every byte of a line is promised here.
 ghost use Rattle.std.specs.Prelude.{Some, ℕ, ◌+◌, ◌≤◌, length};
 ghost use Rattle.put.specs.Put.{Put};
-ghost use Rattle.model.specs.Programs.{line_feed, too_long_line, refused_line, regions_line, ecc_line, stored_line};
-ghost use Rattle.text.specs.Told.{rejected_line, uncorrectable_line};
+ghost use Rattle.model.specs.Programs.{line_feed, too_long_line, refused_line, regions_line, ecc_line};
+ghost use Rattle.text.specs.Told.{rejected_line};
 ghost use Rattle.ecc.specs.Answers.{as_report};
 ghost use Rattle.error.specs.Refused.{number_of, detail_of};
 ghost use Rattle.scan.specs.Answers.{as_scan};
@@ -21,6 +21,7 @@ fn put_too_long(out: &mut [u8], at: usize) -> usize
     put_bytes(out, at, b"too-long")
 }
 
+// The room of 49 bytes is asked in three functions here and in told.rt: a struct for one bound would need a law to open it at each write, and be no plainer.
 fn put_refused(out: &mut [u8], at: usize, refusal: Refusal) -> usize
     requires { at + 49 ≤ length out.old }
     ensures is { Put out.old at (refused_line (number_of refusal) (detail_of refusal)) result out.new }
@@ -39,22 +40,6 @@ pub(crate) fn put_rejected(out: &mut [u8], at: usize, rejected: Rejected) -> usi
         Rejected::TooLong => put_too_long(out, at),
         Rejected::Refused(refusal) => put_refused(out, at, refusal),
     }
-}
-
-pub(crate) fn put_stored(out: &mut [u8], at: usize, stored: usize) -> usize
-    requires { at + 27 ≤ length out.old }
-    ensures is { Put out.old at (stored_line stored) result out.new }
-    ensures few { result ≤ at + 27 }
-{
-    put_field(out, at, b"stored ", stored as u64)
-}
-
-pub(crate) fn put_uncorrectable(out: &mut [u8], at: usize, words: usize) -> usize
-    requires { at + 34 ≤ length out.old }
-    ensures is { Put out.old at (uncorrectable_line words) result out.new }
-    ensures few { result ≤ at + 34 }
-{
-    put_field(out, at, b"uncorrectable ", words as u64)
 }
 
 pub(crate) fn put_regions(out: &mut [u8], at: usize, region_count: u16, needs_scrub: bool) -> usize

@@ -8,15 +8,14 @@ ghost use Rattle.scan.specs.Answers.{as_scan};
 ghost use Rattle.findings.specs.Answers.{as_found, as_outcome};
 ghost use Rattle.text.specs.Told.{prefix, first_line, file_lines, file_report, uncorrectable_lines, mend_text};
 
-use crate::line::{
-    put_ecc, put_line_feed, put_regions, put_rejected, put_stored, put_uncorrectable,
-};
+use crate::line::{put_ecc, put_line_feed, put_regions, put_rejected};
 use ecc::EccReport;
 use findings::{Findings, Rejected};
 use mending::Mending;
 use paths::LONGEST_NAME;
-use put::put_bytes;
+use put::{put_bytes, put_field};
 
+// `name` and `several` go together since the public function `file_report`, and its definition, take both.
 fn put_prefix(out: &mut [u8], at: usize, name: &[u8], several: bool) -> usize
     requires { at + length name.now + 2 ≤ length out.old }
     ensures is { Put out.old at (prefix name.now several) result out.new }
@@ -89,6 +88,7 @@ pub fn file_report(
     ensures leaves { out.new ≡ sets out.old 0 (file_report name.now several (as_found found)) }
     ensures fits { IsPrefixLen result out.new }
 {
+    // 0, and no None: the clause `is` says the length for such a name too.
     if name.len() > LONGEST_NAME {
         return 0;
     }
@@ -111,7 +111,7 @@ fn put_said(out: &mut [u8], outcome: Result<Mending, Rejected>) -> usize
     ensures few { result ≤ 49 }
 {
     match outcome {
-        Ok(mending) => put_stored(out, 0, mending.stored),
+        Ok(mending) => put_field(out, 0, b"stored ", mending.stored as u64),
         Err(rejected) => put_rejected(out, 0, rejected),
     }
 }
@@ -122,7 +122,7 @@ fn put_uncorrectable_line(out: &mut [u8], at: usize, uncorrectable: usize) -> us
     ensures few { result ≤ at + 35 }
 {
     if uncorrectable > 0 {
-        let end = put_uncorrectable(out, at, uncorrectable);
+        let end = put_field(out, at, b"uncorrectable ", uncorrectable as u64);
         put_line_feed(out, end)
     } else {
         at
