@@ -7,24 +7,12 @@ ghost use Rattle.intel_hex.specs.Steps.{type_of};
 // What a line holds: bytes, nothing any more, or the upper half of the addresses behind it.
 #[derive(Clone, Copy)]
 pub(crate) enum RecordType {
-    Data,
-    End,
-    Upper,
+    Data = 0,
+    End = 1,
+    Upper = 4,
 }
 
-impl RecordType {
-    fn number(self) -> u8
-        ensures { result ≡ type_of self }
-    {
-        match self {
-            RecordType::Data => 0,
-            RecordType::End => 1,
-            RecordType::Upper => 4,
-        }
-    }
-}
-
-// A digit's character, in upper case.
+// A digit's character, in upper case. `char::from_digit` answers an `Option` of the lower case, to be unwrapped, raised and cast: no plainer.
 fn digit(d: u8) -> u8
     requires { d < 16 }
     ensures { result ≡ digit_of d }
@@ -56,11 +44,11 @@ fn low_total(bytes: &[u8]) -> u8
 }
 
 // What stands before a record's data.
-fn head(count: u8, address: u16, kind: u8) -> [u8; 4]
-    ensures { result ≡ count ∷ address / 256 ∷ address % 256 ∷ kind ∷ [] }
+fn head(count: u8, address: u16, kind: RecordType) -> [u8; 4]
+    ensures { result ≡ count ∷ address / 256 ∷ address % 256 ∷ type_of kind ∷ [] }
 {
     let [high, low] = address.to_be_bytes();
-    [count, high, low, kind]
+    [count, high, low, kind as u8]
 }
 
 fn sum_byte(head: &[u8; 4], bytes: &[u8]) -> [u8; 1]
@@ -82,7 +70,7 @@ pub(crate) fn put_record(
     requires short { length bytes.now ≤ 255 }
     ensures { Put text.old at (record_line address (type_of kind) bytes.now ++ (10 ∷ [])) result text.new }
 {
-    let head = head(bytes.len() as u8, address, kind.number());
+    let head = head(bytes.len() as u8, address, kind);
     let sum = sum_byte(&head, bytes);
     text[at] = b':';
     let data = put_pairs(text, at + 1, &head);
