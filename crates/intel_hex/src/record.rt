@@ -25,13 +25,11 @@ fn put_pairs(text: &mut [u8], at: usize, bytes: &[u8]) -> usize
     requires { at + 2 * length bytes.now ≤ length text.old }
     ensures { Put text.old at (pairs_of bytes.now) result text.new }
 {
-    let mut next = at;
-    for byte in bytes {
-        text[next] = digit(byte / 16);
-        text[next + 1] = digit(byte % 16);
-        next += 2;
+    for (i, byte) in bytes.iter().enumerate() {
+        text[at + 2 * i] = digit(byte / 16);
+        text[at + 2 * i + 1] = digit(byte % 16);
     }
-    next
+    at + 2 * bytes.len()
 }
 
 // The sum of bytes, without what passes 255.
