@@ -31,7 +31,8 @@ impl<'a> Pool<'a> {
         place_in(self.bytes, offset, len)
     }
 
-    // The very bytes of a part; none where it doesn't end inside the pool.
+    // The very bytes of a part; none where it doesn't end inside the pool. The slice is empty and no `Option` is answered, since the
+    // clause says of every part where the slice lies, and it may not change.
     pub fn slice(self, offset: u32, len: u32) -> &'a [u8]
         ensures { VeryPartIn self.entry.bytes result (pool_range (length self.entry.bytes.now) offset len) }
     {

@@ -14,14 +14,18 @@ pub struct RecordTable<'a> {
 }
 
 impl<'a> RecordTable<'a> {
-    // Bytes that are no table of that stride make the table without bytes, whose stride is 0.
+    // Bytes that are no table of that stride make the table without bytes, whose stride is 0. An `Option` would tell callers less:
+    // the clause says of every argument where the bytes lie, and it may not change.
     pub fn from_bytes(bytes: &'a [u8], stride: usize) -> RecordTable<'a>
         ensures { PartAt bytes.entry result.bytes 0 (cond (is_table (length bytes.now) stride) bytes.now [])
             × (result.stride ≡ cond (is_table (length bytes.now) stride) stride 0) }
     {
+        if tables::is_table(bytes, stride) {
+            return RecordTable { bytes, stride };
+        }
         RecordTable {
-            bytes: table_bytes(bytes, stride),
-            stride: table_stride(bytes, stride),
+            bytes: &bytes[0..0],
+            stride: 0,
         }
     }
 
@@ -50,7 +54,8 @@ impl<'a> RecordTable<'a> {
         place_in(self.bytes, self.stride, index)
     }
 
-    // The very bytes of a record; none where there is no such record.
+    // The very bytes of a record; none where there is no such record. The slice is empty and no `Option` is answered, since the
+    // clause says of every index where the slice lies, and it may not change.
     pub fn get(self, index: usize) -> &'a [u8]
         ensures { VeryPartIn self.entry.bytes result (record_range (length self.entry.bytes.now) self.entry.stride index) }
     {
@@ -62,26 +67,6 @@ impl<'a> RecordTable<'a> {
         ensures { result ≡ range_is_forward (record_count (length self.entry.bytes.now) self.entry.stride) at first count }
     {
         tables::range_is_forward(self.bytes, self.stride, at, first, count)
-    }
-}
-
-fn table_bytes(bytes: &[u8], stride: usize) -> &[u8]
-    ensures { PartAt bytes.entry result 0 (cond (is_table (length bytes.now) stride) bytes.now []) }
-{
-    if tables::is_table(bytes, stride) {
-        bytes
-    } else {
-        &bytes[0..0]
-    }
-}
-
-fn table_stride(bytes: &[u8], stride: usize) -> usize
-    ensures { result ≡ cond (is_table (length bytes.now) stride) stride 0 }
-{
-    if tables::is_table(bytes, stride) {
-        stride
-    } else {
-        0
     }
 }
 

@@ -1,3 +1,4 @@
 pub mod RecordLaw
 pub mod WritingLaw
 pub mod AnswerLaw
+pub mod OneAnswer

@@ -15,6 +15,9 @@ pub record Pairwise (o₀ : List ℕ) (p₀ : ℕ) (bs o : List ℕ) (p i : ℕ)
 pub none_paired : (o : List ℕ) (p : ℕ) (bs : List ℕ) → p + 2 * length bs ≤ length o → Pairwise o p bs o p 0
 none_paired o p bs h = record { some = zero-le; going = begin o p (pairs_of bs) (omega (arith, length_pairs bs)) }
 
+pub paired_to : {o₀ : List ℕ} {p₀ : ℕ} {bs o : List ℕ} {p q i : ℕ} → p ≡ q → Pairwise o₀ p₀ bs o p i → Pairwise o₀ p₀ bs o q i
+paired_to {o₀} {p₀} {bs} {o} {p} {q} {i} e = subst (λ (k : ℕ). Pairwise o₀ p₀ bs o k i) e
+
 module _ {o₀ : List ℕ} {p₀ : ℕ} {bs o : List ℕ} {p i : ℕ} (g : Pairwise o₀ p₀ bs o p i) where
   pairs_left : i < length bs → pairs_of (drop i bs) ≡ digit_of (get_or bs i 0 / 16) ∷ (digit_of (get_or bs i 0 % 16) ∷ pairs_of (drop (i + 1) bs))
   unfolding pairs_of

@@ -78,6 +78,17 @@ pub record Lined (o₀ x o : List ℕ) (p a size : ℕ) (left : List ℕ) : Type
   pub is_left : left ≡ drop a x
   pub written : Written o₀ x o p a
 
+module _ {o₀ x o : List ℕ} {p size : ℕ} {left : List ℕ} where
+  -- the address of a line is sixteen times its number
+  pub first_line : {n : ℕ} → n ≡ 0 → Lined o₀ x o p 0 size left → Lined o₀ x o p (16 * n) size left
+  first_line {n} e = subst (λ (a : ℕ). Lined o₀ x o p a size left) (let z : 0 ≡ 16 * n = omega (arith, e) in z)
+
+  pub at_line : {i n : ℕ} → i ≡ n → Lined o₀ x o p (16 * n) size left → Lined o₀ x o p (16 * i) size left
+  at_line e = subst (λ (k : ℕ). Lined o₀ x o p (16 * k) size left) (sym e)
+
+  pub next_line : (i : ℕ) {n : ℕ} → n ≡ i + 1 → Lined o₀ x o p (16 * i + 16) size left → Lined o₀ x o p (16 * n) size left
+  next_line i {n} e = subst (λ (a : ℕ). Lined o₀ x o p a size left) (let z : 16 * i + 16 ≡ 16 * n = omega (arith, e) in z)
+
 -- a line is cut off
 module _ {o₀ x o : List ℕ} {p a size : ℕ} {left : List ℕ} (g : Lined o₀ x o p a size left) (line rest : List ℕ) (e : left ≡ line ++ rest) (l : length line ≡ min size (length left)) (more : 0 < length left) where
   pub inside : a < length x

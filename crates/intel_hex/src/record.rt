@@ -7,24 +7,12 @@ ghost use Rattle.intel_hex.specs.Steps.{type_of};
 // What a line holds: bytes, nothing any more, or the upper half of the addresses behind it.
 #[derive(Clone, Copy)]
 pub(crate) enum RecordType {
-    Data,
-    End,
-    Upper,
+    Data = 0,
+    End = 1,
+    Upper = 4,
 }
 
-impl RecordType {
-    fn number(self) -> u8
-        ensures { result ≡ type_of self }
-    {
-        match self {
-            RecordType::Data => 0,
-            RecordType::End => 1,
-            RecordType::Upper => 4,
-        }
-    }
-}
-
-// A digit's character, in upper case.
+// A digit's character, in upper case. `char::from_digit` answers an `Option` of the lower case, to be unwrapped, raised and cast: no plainer.
 fn digit(d: u8) -> u8
     requires { d < 16 }
     ensures { result ≡ digit_of d }
@@ -37,13 +25,11 @@ fn put_pairs(text: &mut [u8], at: usize, bytes: &[u8]) -> usize
     requires { at + 2 * length bytes.now ≤ length text.old }
     ensures { Put text.old at (pairs_of bytes.now) result text.new }
 {
-    let mut next = at;
-    for byte in bytes {
-        text[next] = digit(byte / 16);
-        text[next + 1] = digit(byte % 16);
-        next += 2;
+    for (i, byte) in bytes.iter().enumerate() {
+        text[at + 2 * i] = digit(byte / 16);
+        text[at + 2 * i + 1] = digit(byte % 16);
     }
-    next
+    at + 2 * bytes.len()
 }
 
 // The sum of bytes, without what passes 255.
@@ -56,11 +42,11 @@ fn low_total(bytes: &[u8]) -> u8
 }
 
 // What stands before a record's data.
-fn head(count: u8, address: u16, kind: u8) -> [u8; 4]
-    ensures { result ≡ count ∷ address / 256 ∷ address % 256 ∷ kind ∷ [] }
+fn head(count: u8, address: u16, kind: RecordType) -> [u8; 4]
+    ensures { result ≡ count ∷ address / 256 ∷ address % 256 ∷ type_of kind ∷ [] }
 {
     let [high, low] = address.to_be_bytes();
-    [count, high, low, kind]
+    [count, high, low, kind as u8]
 }
 
 fn sum_byte(head: &[u8; 4], bytes: &[u8]) -> [u8; 1]
@@ -82,7 +68,7 @@ pub(crate) fn put_record(
     requires short { length bytes.now ≤ 255 }
     ensures { Put text.old at (record_line address (type_of kind) bytes.now ++ (10 ∷ [])) result text.new }
 {
-    let head = head(bytes.len() as u8, address, kind.number());
+    let head = head(bytes.len() as u8, address, kind);
     let sum = sum_byte(&head, bytes);
     text[at] = b':';
     let data = put_pairs(text, at + 1, &head);

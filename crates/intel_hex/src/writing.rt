@@ -44,11 +44,10 @@ fn put_text(text: &mut [u8], bytes: &[u8]) -> usize
     ensures { Put text.old 0 (hex_text bytes.now) result text.new }
 {
     let mut next: usize = 0;
-    let mut from: usize = 0;
-    for line in bytes.chunks(LINE_BYTES) {
+    for (i, line) in bytes.chunks(LINE_BYTES).enumerate() {
+        let from = LINE_BYTES * i;
         let data = put_upper(text, next, from);
         next = put_record(text, data, (from % HALF) as u16, RecordType::Data, line);
-        from += LINE_BYTES;
     }
     put_record(text, next, 0, RecordType::End, b"")
 }

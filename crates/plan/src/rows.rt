@@ -10,12 +10,13 @@ use ecc::ECC_KIND_BIT;
 use error::Refusal;
 use layout::{FLAG_ECC_PRESENT, FLAG_ENCRYPTED, FLAG_OPTIONAL, WORD};
 
-// All flags that a row may have. A number has another bit exactly if it is above their sum.
+// All flags that a row may have. A number has another bit exactly if it is above their sum. Flags are numbers, since C's `kw_row` has them so.
 const ROW_FLAGS: u16 = FLAG_ENCRYPTED + FLAG_ECC_PRESENT + FLAG_OPTIONAL;
 
 // The highest kind that a row may have; those above are kinds of planes.
 const HIGHEST_KIND: u16 = ECC_KIND_BIT - 1;
 
+// A row of a plan: `kw_row` of the C interface, of which `kw_write` lends a list.
 #[repr(C)]
 #[derive(Clone, Copy)]
 pub struct Row {

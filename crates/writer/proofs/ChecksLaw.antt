@@ -23,10 +23,10 @@ pub record Checked (o₀ : List ℕ) (p₀ : ℕ) (b o : List ℕ) (p size : ℕ
   pub eight : size ≡ 8
   pub going : Going o₀ p₀ (checks (length b / 8) b) o p (checks (length rest / 8) rest)
 
-pub none_checked : (o : List ℕ) (p : ℕ) (b : List ℕ) {size : ℕ} {rest : List ℕ} → p + length b / 8 ≤ length o → size ≡ 8 → rest ≡ b → Checked o p b o p size rest
-none_checked o p b {size} {rest} h e f = record {
+pub none_checked : (o : List ℕ) (p : ℕ) (b : List ℕ) {p' size : ℕ} {rest : List ℕ} → p + length b / 8 ≤ length o → p' ≡ p → size ≡ 8 → rest ≡ b → Checked o p b o p' size rest
+none_checked o p b {p'} {size} {rest} h i e f = record {
   eight = e;
-  going = subst (λ (x : List ℕ). Going o p (checks (length b / 8) b) o p (checks (length x / 8) x)) (sym f) (begin o p (checks (length b / 8) b) (omega (arith, h, length_checks (length b / 8) b)));
+  going = subst (λ (k : ℕ). Going o p (checks (length b / 8) b) o k (checks (length rest / 8) rest)) (sym i) (subst (λ (x : List ℕ). Going o p (checks (length b / 8) b) o p (checks (length x / 8) x)) (sym f) (begin o p (checks (length b / 8) b) (omega (arith, h, length_checks (length b / 8) b))));
 }
 
 module _ {o₀ : List ℕ} {p₀ : ℕ} {b o : List ℕ} {p size : ℕ} {rest : List ℕ} (g : Checked o₀ p₀ b o p size rest) where
@@ -43,13 +43,22 @@ module _ {o₀ : List ℕ} {p₀ : ℕ} {b o : List ℕ} {p size : ℕ} {rest : 
     pub check_room : p < length o
     check_room = omega (arith, g.going.room, ap length next)
 
-    pub check_put : {v size' : ℕ} → v ≡ check_of (read 8 word 0) → size' ≡ size → Checked o₀ p₀ b (set o p v) (p + 1) size' behind
-    check_put {v} {size'} f h =
-        let n : checks (length rest / 8) rest ≡ v ∷ checks (length behind / 8) behind = next ∙ ap (λ (k : ℕ). k ∷ checks (length behind / 8) behind) (sym f) in
-        record { eight = h ∙ g.eight; going = go_byte o p v (checks (length behind / 8) behind) (subst (Going o₀ p₀ (checks (length b / 8) b) o p) n g.going) }
+    -- the byte goes to place j, which is p
+    pub check_put : {v size' j p' : ℕ} → v ≡ check_of (read 8 word 0) → size' ≡ size → j ≡ p → p' ≡ p + 1 → Checked o₀ p₀ b (set o j v) p' size' behind
+    check_put {v} {size'} {j} {p'} f h i m =
+        let left : List ℕ = checks (length behind / 8) behind in
+        let n : checks (length rest / 8) rest ≡ v ∷ left = next ∙ ap (λ (k : ℕ). k ∷ left) (sym f) in
+        record {
+          eight = h ∙ g.eight;
+          going = subst (λ (k : ℕ). Going o₀ p₀ (checks (length b / 8) b) (set o k v) p' left) (sym i)
+              (subst (λ (k : ℕ). Going o₀ p₀ (checks (length b / 8) b) (set o p v) k left) (sym m)
+              (go_byte o p v left (subst (Going o₀ p₀ (checks (length b / 8) b) o p) n g.going)));
+        }
 
-  pub all_checked : length rest < size → Put o₀ p₀ (checks (length b / 8) b) p o
+  pub all_checked : {r : ℕ} → length rest < size → r ≡ p₀ + length b / 8 → Put o₀ p₀ (checks (length b / 8) b) r o
   unfolding checks
-  all_checked l =
+  all_checked {r} l e =
       let m : length rest / 8 ≡ 0 = omega (arith, l, g.eight) in
-      gone o p (subst (λ (n : ℕ). Going o₀ p₀ (checks (length b / 8) b) o p (checks n rest)) m g.going)
+      let q : Put o₀ p₀ (checks (length b / 8) b) p o = gone o p (subst (λ (n : ℕ). Going o₀ p₀ (checks (length b / 8) b) o p (checks n rest)) m g.going) in
+      let f : p ≡ r = omega (arith, q.behind, e, length_checks (length b / 8) b) in
+      subst (λ (k : ℕ). Put o₀ p₀ (checks (length b / 8) b) k o) f q

@@ -1,9 +1,10 @@
 // The directory of a plan, put in three copies. (FORMAT 9)
 ghost use Rattle.std.specs.Prelude.{◌≡◌, ◌+◌, ◌*◌, ◌≤◌, ◌<◌, length};
+ghost use Rattle.std.proofs.Props.{props};
 ghost use Rattle.model.specs.Bytes.{thrice};
 ghost use Rattle.model.specs.Writer.{row_words_lem, planes_words, row_entry, plane_entry, row_entries, plane_entries, entry_bytes, entries_bytes};
 ghost use Rattle.plan.specs.Rows.{as_row, as_plan};
-ghost use Rattle.writer.specs.Directory.{directory_bytes, LowKinds, Packs};
+ghost use Rattle.writer.specs.Directory.{directory_bytes, LowKinds};
 ghost use Rattle.put.specs.Put.{Put};
 ghost use Rattle.layout.specs.Regions.{as_entry};
 
@@ -12,66 +13,69 @@ use layout::{COPIES, FLAG_IS_ECC, Region};
 use plan::Row;
 use put::put_number;
 
-// The copies from `at` on, of rows whose regions start at word `first_word` and whose planes start at word `plane_word`.
-pub(crate) fn put_directories(
-    out: &mut [u8],
-    at: usize,
-    rows: &[Row],
-    first_word: u32,
-    plane_word: u32,
-) -> usize
-    requires room { at + 3 * length (directory_bytes first_word plane_word rows.now) ≤ length out.old }
-    requires packs { Packs rows.now first_word plane_word }
-    ensures { Put out.old at (thrice (directory_bytes first_word plane_word rows.now)) result out.new }
-{
-    let mut next = at;
-    for _copy in 0..COPIES {
-        next = put_directory(out, next, rows, first_word, plane_word);
-    }
-    next
+// The directory of rows whose regions start at word `first_word` and whose planes start at word `plane_word`: every region and
+// plane starts at a word that 32 bits hold, and no kind is a plane's.
+#[derive(Clone, Copy)]
+pub(crate) struct Directory<'a> {
+    pub(crate) rows: &'a [Row],
+    pub(crate) first_word: u32,
+    pub(crate) plane_word: u32,
+    ghost regions_fit: { first_word + row_words_lem (as_plan rows.now) < 4294967296 },
+    ghost planes_fit: { plane_word + planes_words (as_plan rows.now) < 4294967296 },
+    ghost low: { LowKinds rows.now } by { Prim.hlevel props },
 }
 
-// One copy of the directory: the rows in order, then the planes in row order.
-fn put_directory(out: &mut [u8], at: usize, rows: &[Row], first_word: u32, plane_word: u32) -> usize
-    requires room { at + length (directory_bytes first_word plane_word rows.now) ≤ length out.old }
-    requires packs { Packs rows.now first_word plane_word }
-    ensures { Put out.old at (directory_bytes first_word plane_word rows.now) result out.new }
-{
-    let planes = put_row_entries(out, at, rows, first_word);
-    put_plane_entries(out, planes, rows, plane_word)
-}
-
-fn put_row_entries(out: &mut [u8], at: usize, rows: &[Row], first_word: u32) -> usize
-    requires room { at + length (entries_bytes (row_entries first_word (as_plan rows.now))) ≤ length out.old }
-    requires packs { first_word + row_words_lem (as_plan rows.now) < 4294967296 }
-    ensures { Put out.old at (entries_bytes (row_entries first_word (as_plan rows.now))) result out.new }
-{
-    let mut next = at;
-    let mut offset = first_word;
-    for row in rows {
-        next = put_entry(out, next, row_entry(*row, offset));
-        offset += row.words;
-    }
-    next
-}
-
-// The rows' loop with another entry, and for fewer rows: a loop for both would take a closure, and its contract a ghost function
-// for the closure and a law for each of the two, which is no plainer.
-fn put_plane_entries(out: &mut [u8], at: usize, rows: &[Row], first_word: u32) -> usize
-    requires room { at + length (entries_bytes (plane_entries first_word (as_plan rows.now))) ≤ length out.old }
-    requires packs { first_word + planes_words (as_plan rows.now) < 4294967296 }
-    requires low { LowKinds rows.now }
-    ensures { Put out.old at (entries_bytes (plane_entries first_word (as_plan rows.now))) result out.new }
-{
-    let mut next = at;
-    let mut offset = first_word;
-    for row in rows {
-        if row.is_protected() {
-            next = put_entry(out, next, plane_entry(*row, offset));
-            offset += row.plane_words() as u32;
+impl<'a> Directory<'a> {
+    // The three copies, from `at` on.
+    pub(crate) fn put_copies(self, out: &mut [u8], at: usize) -> usize
+        requires { at + 3 * length (directory_bytes self.first_word self.plane_word self.rows.now) ≤ length out.old }
+        ensures { Put out.old at (thrice (directory_bytes self.entry.first_word self.entry.plane_word self.entry.rows.now)) result out.new }
+    {
+        let mut next = at;
+        for _copy in 0..COPIES {
+            next = self.put_copy(out, next);
         }
+        next
     }
-    next
+
+    // One copy: the rows in order, then the planes in row order.
+    fn put_copy(self, out: &mut [u8], at: usize) -> usize
+        requires { at + length (directory_bytes self.first_word self.plane_word self.rows.now) ≤ length out.old }
+        ensures { Put out.old at (directory_bytes self.entry.first_word self.entry.plane_word self.entry.rows.now) result out.new }
+    {
+        let planes = self.put_row_entries(out, at);
+        self.put_plane_entries(out, planes)
+    }
+
+    fn put_row_entries(self, out: &mut [u8], at: usize) -> usize
+        requires { at + length (entries_bytes (row_entries self.first_word (as_plan self.rows.now))) ≤ length out.old }
+        ensures { Put out.old at (entries_bytes (row_entries self.entry.first_word (as_plan self.entry.rows.now))) result out.new }
+    {
+        let mut next = at;
+        let mut offset = self.first_word;
+        for row in self.rows {
+            next = put_entry(out, next, row_entry(*row, offset));
+            offset += row.words;
+        }
+        next
+    }
+
+    // The rows' loop with another entry, and for fewer rows: a loop for both would take a closure, and its contract a ghost function
+    // for the closure and a law for each of the two, which is no plainer.
+    fn put_plane_entries(self, out: &mut [u8], at: usize) -> usize
+        requires { at + length (entries_bytes (plane_entries self.plane_word (as_plan self.rows.now))) ≤ length out.old }
+        ensures { Put out.old at (entries_bytes (plane_entries self.entry.plane_word (as_plan self.entry.rows.now))) result out.new }
+    {
+        let mut next = at;
+        let mut offset = self.plane_word;
+        for row in self.rows {
+            if row.is_protected() {
+                next = put_entry(out, next, plane_entry(*row, offset));
+                offset += row.plane_words() as u32;
+            }
+        }
+        next
+    }
 }
 
 fn put_entry(out: &mut [u8], at: usize, entry: Region) -> usize

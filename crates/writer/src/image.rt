@@ -6,7 +6,7 @@ ghost use Rattle.model.specs.Writer as model;
 ghost use Rattle.plan.specs.Rows.{as_plan};
 ghost use Rattle.put.specs.Put.{Put};
 
-use crate::directory::put_directories;
+use crate::directory::Directory;
 use crate::planes::put_planes;
 use crate::prologue::put_prologues;
 use layout::{WORD, header_length};
@@ -22,7 +22,12 @@ pub(crate) fn put_image(out: &mut [u8], rows: &[Row], regions: usize, payload: &
     let directory = put_prologues(out, count, 0);
     let first_word = (header_length(count) / WORD) as u32;
     let plane_word = first_word + (payload.len() / WORD) as u32;
-    let packed = put_directories(out, directory, rows, first_word, plane_word);
+    let copies = Directory {
+        rows,
+        first_word,
+        plane_word,
+    };
+    let packed = copies.put_copies(out, directory);
     let planes = put_bytes(out, packed, payload);
     put_planes(out, planes, rows, payload)
 }

@@ -17,6 +17,7 @@ use layout::MAX_REGIONS;
 use plan::{Row, check_rows, check_sizes};
 
 // The image of the plan goes to the front of `out`, and the answer is its length; a refusal leaves every byte of `out` as it was.
+// The buffer is lent and its length answered as C's `kw_write` does it, in fixed memory.
 pub fn write(rows: &[Row], payload: &[u8], out: &mut [u8]) -> Result<usize, Refusal>
     ensures is { as_written result ≡ answer_of (model.write (as_plan rows.now) payload.now (length out.old)) }
     ensures leaves { out.new ≡ bytes_after (model.write (as_plan rows.now) payload.now (length out.old)) out.old }

@@ -43,10 +43,8 @@ fn put_checks(out: &mut [u8], at: usize, words: &[u8]) -> usize
     requires { at + length words.now / 8 ≤ length out.old }
     ensures { Put out.old at (checks (length words.now / 8) words.now) result out.new }
 {
-    let mut next = at;
-    for word in words.chunks_exact(WORD) {
-        out[next] = check_byte(u64_or_zero(word, 0));
-        next += 1;
+    for (i, word) in words.chunks_exact(WORD).enumerate() {
+        out[at + i] = check_byte(u64_or_zero(word, 0));
     }
-    next
+    at + words.len() / WORD
 }

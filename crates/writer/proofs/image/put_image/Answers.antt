@@ -54,27 +54,31 @@ pub overflow_add-plane_word : goal.overflow_add-plane_word
 unfolding image_length
 overflow_add-plane_word c = let s = sized c.args.rows.now c.args.regions c.args.payload.now c.args.out.now c.requires.counted c.requires.fine in omega (arith, s.fits, first_word_lem s c.header_length.ensures, row_words s c.header_length.ensures)
 
-pub put_directories-packed-requires : goal.put_directories-packed-requires
+pub invariant_of-copies : goal.invariant_of-copies
 unfolding image_length
-put_directories-packed-requires c =
+invariant_of-copies c =
+    let s = sized c.args.rows.now c.args.regions c.args.payload.now c.args.out.now c.requires.counted c.requires.fine in
+    let h = c.header_length.ensures in
+    record {
+      regions_fit = omega (arith, s.fits, first_word_lem s h);
+      planes_fit = omega (arith, s.fits, first_word_lem s h, row_words s h);
+      low = s.low_kinds;
+    }
+
+pub put_copies-packed-requires : goal.put_copies-packed-requires
+unfolding image_length
+put_copies-packed-requires c =
     let s = sized c.args.rows.now c.args.regions c.args.payload.now c.args.out.now c.requires.counted c.requires.fine in
     let h = c.header_length.ensures in
     let p = c.put_prologues-directory.ensures in
-    record {
-      room = omega (arith, long s h, s.room, p.behind, p.long, prologues_length c.args.regions 0);
-      packs = record {
-        regions_fit = omega (arith, s.fits, first_word_lem s h);
-        planes_fit = omega (arith, s.fits, first_word_lem s h, row_words s h);
-        low = s.low_kinds;
-      };
-    }
+    omega (arith, long s h, s.room, p.behind, p.long, prologues_length c.args.regions 0)
 
 pub put_bytes-planes-requires : goal.put_bytes-planes-requires
 unfolding image_length
 put_bytes-planes-requires c =
     let s = sized c.args.rows.now c.args.regions c.args.payload.now c.args.out.now c.requires.counted c.requires.fine in
     let p = c.put_prologues-directory.ensures in
-    let q = c.put_directories-packed.ensures in
+    let q = c.put_copies-packed.ensures in
     omega (arith, long_thrice s c.header_length.ensures, s.room, s.full, q.behind, q.long, p.behind, p.long, prologues_length c.args.regions 0)
 
 pub put_planes-requires : goal.put_planes-requires
@@ -82,7 +86,7 @@ unfolding image_length
 put_planes-requires c =
     let s = sized c.args.rows.now c.args.regions c.args.payload.now c.args.out.now c.requires.counted c.requires.fine in
     let p = c.put_prologues-directory.ensures in
-    let q = c.put_directories-packed.ensures in
+    let q = c.put_copies-packed.ensures in
     let b = c.put_bytes-planes.ensures in
     record {
       room = omega (arith, long_thrice s c.header_length.ensures, s.room, s.full, b.behind, b.long, q.behind, q.long, p.behind, p.long, prologues_length c.args.regions 0, length_planes (as_plan c.args.rows.now) c.args.payload.now);
@@ -105,6 +109,6 @@ returns c =
     ap₂ (λ (m : ℕ) (x : List ℕ). thrice (prologue_bytes m 0) ++ (thrice x ++ (payload ++ q))) s.counted (copied s h) in
     let g0 = begin o 0 (a ++ (d ++ (payload ++ q))) (omega (arith, s.room, ap length e, image_length_lem rs payload s.full)) in
     let g1 = go_on _ _ a (d ++ (payload ++ q)) g0 c.put_prologues-directory.ensures in
-    let g2 = go_on _ _ d (payload ++ q) g1 c.put_directories-packed.ensures in
+    let g2 = go_on _ _ d (payload ++ q) g1 c.put_copies-packed.ensures in
     let g3 = go_on _ _ payload q g2 c.put_bytes-planes.ensures in
     subst (λ (x : List ℕ). Put o 0 x c.put_planes.result c.put_planes.new.out) e (last _ _ q g3 c.put_planes.ensures)
