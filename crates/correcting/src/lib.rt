@@ -9,7 +9,8 @@ ghost use Rattle.model.specs.Scan.{codewords_in, report};
 ghost use Rattle.ecc.specs.Answers.{as_outcome, as_report};
 ghost use Rattle.scan.specs.Runs.{codewords_of, visits_at, Fits};
 ghost use Rattle.scan.specs.Answers.{as_scan};
-ghost use Rattle.scan.specs.Tally.{reported, or_zeros};
+ghost use Rattle.scan.specs.Tally.{reported, or_zeros, Room, report_on};
+ghost use Rattle.model.specs.Steps.{plus};
 ghost use Rattle.correcting.specs.Correct.{correct_at, correct_all, met};
 
 use ecc::{CheckTable, EccReport, WordStatus};
@@ -39,7 +40,7 @@ fn store_check(table: CheckTable, bytes: &mut [u8], check: usize, word: u64, wit
 }
 
 // Decodes a word with its check byte, and writes it where it was corrected.
-fn correct_word(
+fn repair_word(
     table: CheckTable,
     bytes: &mut [u8],
     word: usize,
@@ -54,11 +55,6 @@ fn correct_word(
     let end = start + 8;
     let data = u64_or_zero(bytes, start);
     let found = bytes[check];
-    let expected = table.check_byte(data);
-    // A clean word, which nearly every one is, is decoded no further.
-    if expected == found {
-        return WordStatus::Clean(data);
-    }
     let status = table.decode_word(data, found);
     match status {
         WordStatus::Clean(_) => {}
@@ -69,6 +65,30 @@ fn correct_word(
         WordStatus::Uncorrectable => {}
     }
     status
+}
+
+// Repairs a word, and adds it to a report. A clean word, which nearly every one is, is decoded no further, and counted where it is
+// told, so that the compiler leads it straight to the next.
+fn correct_word(
+    table: CheckTable,
+    bytes: &mut [u8],
+    word: usize,
+    check: usize,
+    with_check: bool,
+    report: EccReport,
+) -> EccReport
+    requires { (8 * word + 8 ≤ length bytes.old) × (check < length bytes.old) × Room 1 (as_report report) }
+    ensures is { as_report result ≡ plus (as_report report) (report_on (outcome (word_at bytes.old word) (at bytes.old check))) }
+    ensures stores { bytes.new ≡ correct_at with_check (record { word = word; check = check }) bytes.old }
+{
+    let data = u64_or_zero(bytes, 8 * word);
+    let found = bytes[check];
+    let expected = table.check_byte(data);
+    if expected == found {
+        return count_word(report, WordStatus::Clean(data));
+    }
+    let status = repair_word(table, bytes, word, check, with_check);
+    count_word(report, status)
 }
 
 // Corrects the words of a run, ascending, and counts them. Each is read as it then stands.
@@ -84,8 +104,8 @@ fn correct_run(
 {
     let mut report = EccReport::default();
     for k in 0..run.words {
-        let status = correct_word(table, bytes, run.word + k, run.check + k, with_check);
-        report = count_word(report, status);
+        let (word, check) = (run.word + k, run.check + k);
+        report = correct_word(table, bytes, word, check, with_check, report);
     }
     report
 }

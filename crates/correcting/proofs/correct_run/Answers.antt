@@ -4,7 +4,9 @@ use native.Mathlib.Omega.{arith}
 use Rattle.model.specs.Scan.{Report, codewords_from, report}
 use Rattle.model.specs.Steps.{plus, no_report}
 use Rattle.model.proofs.ScanLaw.{none_plus}
-use Rattle.ecc.specs.Answers.{as_outcome, as_report}
+use Rattle.model.specs.Bytes.{at, word_at}
+use Rattle.model.specs.Parity.{outcome}
+use Rattle.ecc.specs.Answers.{as_report}
 use Rattle.scan.specs.Tally.{Room}
 use Rattle.scan.proofs.TallyLaw.{room_next, bounded_none}
 use Rattle.correcting.specs.Correct.{correct_all, met}
@@ -27,20 +29,16 @@ loop-k-init c =
           ∙ rw (n, w, k) (none_plus (report (met g.with_check g.bytes.now (codewords_from r.words r.word r.check)))),
     )
 
-pub overflow_add-run : goal.overflow_add-run
-overflow_add-run c = omega (arith, c.requires.words)
+pub overflow_add-word : goal.overflow_add-word
+overflow_add-word c = omega (arith, c.requires.words)
 
-pub overflow_add-run-in-loop-k : goal.overflow_add-run-in-loop-k
-overflow_add-run-in-loop-k c = omega (arith, c.requires.checks)
+pub overflow_add-check : goal.overflow_add-check
+overflow_add-check c = omega (arith, c.requires.checks)
 
-pub correct_word-status-requires : goal.correct_word-status-requires
-correct_word-status-requires c =
-    (omega (arith, c.requires.words), omega (arith, c.requires.checks))
-
-pub count_word-report-requires : goal.count_word-report-requires
-count_word-report-requires c =
+pub correct_word-report-requires : goal.correct_word-report-requires
+correct_word-report-requires c =
     let r = c.loop-k.invariant.1 in
-    record { words = omega (arith, r.words); counts = r.counts }
+    (omega (arith, c.requires.words), omega (arith, c.requires.checks), record { words = omega (arith, r.words); counts = r.counts })
 
 pub loop-k-preserved : goal.loop-k-preserved
 loop-k-preserved c =
@@ -48,17 +46,19 @@ loop-k-preserved c =
     let r = g.run in
     let b = g.with_check in
     let k = c.loop-k.k in
-    let y = c.correct_word-status.new.bytes in
+    let x = c.loop-k.bytes in
+    let w = c.correct_word-report in
+    let y = w.new.bytes in
     let t = as_report c.loop-k.report in
-    let o = as_outcome c.correct_word-status.result in
+    let o = outcome (word_at x (r.word + k)) (at x (r.check + k)) in
     let n : r.words - k ≡ suc (r.words - (k + 1)) = omega arith in (
-      omega (arith, c.loop-k.invariant.0, c.correct_word-status.auto.bytes),
-      subst (Room (r.words - (k + 1))) (sym c.count_word-report.ensures)
+      omega (arith, c.loop-k.invariant.0, w.auto.bytes),
+      subst (Room (r.words - (k + 1))) (sym w.ensures.is)
           (room_next t (r.words - (k + 1)) o (subst (λ (m : ℕ). Room m t) n c.loop-k.invariant.1)),
-      ap (correct_all b (codewords_from (r.words - (k + 1)) (r.word + (k + 1)) (r.check + (k + 1)))) c.correct_word-status.ensures.stores
-          ∙ sym (correct_next b r.words r.word r.check k c.loop-k.bytes (omega arith)) ∙ c.loop-k.invariant.2,
-      ap (λ (z : Report). plus z (report (met b y (codewords_from (r.words - (k + 1)) (r.word + (k + 1)) (r.check + (k + 1)))))) c.count_word-report.ensures
-          ∙ met_next b r.words r.word r.check k c.loop-k.bytes t y o (omega arith) c.correct_word-status.ensures.is c.correct_word-status.ensures.stores ∙ c.loop-k.invariant.3,
+      ap (correct_all b (codewords_from (r.words - (k + 1)) (r.word + (k + 1)) (r.check + (k + 1)))) w.ensures.stores
+          ∙ sym (correct_next b r.words r.word r.check k x (omega arith)) ∙ c.loop-k.invariant.2,
+      ap (λ (z : Report). plus z (report (met b y (codewords_from (r.words - (k + 1)) (r.word + (k + 1)) (r.check + (k + 1)))))) w.ensures.is
+          ∙ met_next b r.words r.word r.check k x t y o (omega arith) refl w.ensures.stores ∙ c.loop-k.invariant.3,
     )
 
 pub returns : goal.returns

@@ -1,14 +1,10 @@
-use mathlib.Core.Path.{refl, ap, ◌∙◌}
-use mathlib.Core.List.{List}
-use Prim.Native.Nat.{ℕ, ◌+◌, ◌-◌, ◌*◌}
-use native.Mathlib.Omega.{arith}
-use lib.Seq.{sets}
-use borrow.Rule.Slice.PartMut.{put_mid}
-use Rattle.model.specs.Bytes.{le_bytes}
-use Rattle.model.proofs.BytesLaw.{length_le_bytes}
-use Rattle.scan.proofs.WordLaw.{matched_clean, decoded}
-use Rattle.put.proofs.PutLaw.{came_back}
-use Rattle.correcting.proofs.CorrectLaw.{kept_clean, kept_uncorrectable, put_corrected}
+use mathlib.Core.Path.{ap, ◌∙◌}
+use Rattle.model.specs.Parity.{Outcome}
+use Rattle.model.specs.Steps.{plus}
+use Rattle.ecc.specs.Answers.{as_report}
+use Rattle.scan.specs.Tally.{report_on}
+use Rattle.scan.proofs.WordLaw.{matched_clean}
+use Rattle.correcting.proofs.CorrectLaw.{kept_clean}
 use Rattle.correcting.proofs.correct_word.Goals as goal
 
 -- `correcting::correct_word` meets its contract. Assumes nothing.
@@ -18,39 +14,15 @@ returns-then-expected-found c =
     let u = c.u64_or_zero-data in
     let g = c.args in
     let e = matched_clean g.bytes.now g.word g.check u.result c.requires.0 u.ensures k.result k.ensures c.if-expected-found.true in
-    record { is = e; stores = kept_clean g.with_check g.bytes.now (record { word = g.word; check = g.check }) u.result e }
-
-pub returns-in-Clean : goal.returns-in-Clean
-returns-in-Clean c =
-    let u = c.u64_or_zero-data in
-    let g = c.args in
     record {
-      is = decoded g.bytes.now g.word g.check u.result c.requires.0 u.ensures c.decode_word-status.ensures;
-      stores = kept_clean g.with_check g.bytes.now (record { word = g.word; check = g.check }) _ (decoded g.bytes.now g.word g.check u.result c.requires.0 u.ensures c.in-Clean.ensures);
+      is = c.count_word.ensures ∙ ap (λ (o : Outcome). plus (as_report g.report) (report_on o)) e;
+      stores = kept_clean g.with_check g.bytes.now (record { word = g.word; check = g.check }) u.result e;
     }
 
-pub shape_of-bytes-in-Corrected : goal.shape_of-bytes-in-Corrected
-shape_of-bytes-in-Corrected c = omega arith
-
-pub returns-in-Corrected : goal.returns-in-Corrected
-returns-in-Corrected c =
-    let u = c.u64_or_zero-data in
-    let g = c.args in
-    let v = c.in-Corrected.fixed in
-    let y = c.store_check.new.bytes in
-    let a = 8 * g.word in
-    let e = decoded g.bytes.now g.word g.check u.result c.requires.0 u.ensures c.in-Corrected.ensures in record {
-      is = e;
-      stores = ap (put_mid a (a + 8 - a) y) c.store_word.ensures
-          ∙ (came_back y (le_bytes 8 v) a 8 (length_le_bytes 8 v) (omega (arith, c.requires.0, c.store_check.auto.bytes)) refl).stored
-          ∙ ap (λ (z : List ℕ). sets z a (le_bytes 8 v)) c.store_check.ensures ∙ put_corrected g.with_check g.bytes.now (record { word = g.word; check = g.check }) v e;
-    }
-
-pub returns-in-Uncorrectable : goal.returns-in-Uncorrectable
-returns-in-Uncorrectable c =
-    let u = c.u64_or_zero-data in
-    let g = c.args in
+pub returns : goal.returns
+returns c =
+    let w = c.repair_word-status in
     record {
-      is = decoded g.bytes.now g.word g.check u.result c.requires.0 u.ensures c.decode_word-status.ensures;
-      stores = kept_uncorrectable g.with_check g.bytes.now (record { word = g.word; check = g.check }) (decoded g.bytes.now g.word g.check u.result c.requires.0 u.ensures c.in-Uncorrectable.ensures);
+      is = c.count_word-2.ensures ∙ ap (λ (o : Outcome). plus (as_report c.args.report) (report_on o)) w.ensures.is;
+      stores = w.ensures.stores;
     }
