@@ -5,9 +5,13 @@ use mathlib.Core.List.{List, [], ◌∷◌, ◌++◌, append-nil}
 use Prim.Native.Nat.{ℕ, suc, ◌+◌, ◌-◌, ◌*◌, ◌≤◌, ◌<◌}
 use native.Mathlib.Nat.{zero-add}
 use native.Mathlib.Omega.{arith}
-use lib.ListN.{length, drop, set, drop_of_length-le}
-use lib.Seq.{sets, sets-eq}
-use Rattle.model.specs.Bytes.{at, word_at, le_bytes}
+use Rattle.std.specs.Prelude.{unwrap_or}
+use Rattle.std.specs.List.{slice_range}
+use lib.ListN.{length, drop, set, drop_of_length-le, length-take, length-drop}
+use lib.Seq.{sets, sets-eq, get_or-take, get_or-drop}
+use Rattle.model.specs.Bytes.{at, word_at, le_bytes, read_in}
+use Rattle.model.proofs.BytesLaw.{read_ext}
+use Rattle.scalar.proofs.OrZero.{or_zero_in}
 use Rattle.model.specs.Parity.{Class, clean, uncorrectable, check_of, decode, Outcome, clean_word, corrected_word, uncorrectable_word, outcome}
 use Rattle.model.specs.Scan.{Codeword, codewords_from, codewords_in, Visit, class_at}
 use Rattle.model.specs.Scan.{Report, report}
@@ -107,3 +111,13 @@ length_met b x (p ∷ ps) = ap suc (length_met b (correct_at b p x) ps)
 pub met_words : (b : Bool) (x : List ℕ) (ps : List Codeword) → (report (met b x ps)).words ≡ length ps
 unfolding report
 met_words b x ps = length_met b x ps
+
+-- ---- a word read off its own eight bytes
+
+pub read_part : (x : List ℕ) (p v : ℕ) → p + 8 ≤ length x → v ≡ unwrap_or (read_in 8 (slice_range x p (p + 8)) 0) 0 → v ≡ unwrap_or (read_in 8 x p) 0
+read_part x p v h e =
+    let y = slice_range x p (p + 8) in
+    let l : length y ≡ 8 = simp (length-take, length-drop) (omega arith) in
+    e ∙ or_zero_in 8 y 0 (omega (arith, l))
+    ∙ read_ext 8 y x 0 p (λ j m. ap (at y) (zero-add j) ∙ get_or-take (p + 8 - p) (drop p x) j 0 (omega arith) ∙ get_or-drop p x j 0)
+    ∙ sym (or_zero_in 8 x p h)

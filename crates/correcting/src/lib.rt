@@ -29,7 +29,8 @@ fn store_word(part: &mut [u8], word: u64)
 }
 
 // Stores the check byte of a word, if asked to. Here and below a flag says so, and no closure: the definitions take the flag too,
-// and the clauses of a closure would be those definitions again.
+// and the clauses of a closure would be those definitions again. It goes along with table and bytes: a struct that lends the bytes
+// would owe its facts at each write.
 fn store_check(table: CheckTable, bytes: &mut [u8], check: usize, word: u64, with_check: bool)
     requires { check < length bytes.old }
     ensures { bytes.new ≡ cond with_check (set bytes.old check (check_of word)) bytes.old }
@@ -81,7 +82,9 @@ fn correct_word(
     ensures is { as_report result ≡ plus (as_report report) (report_on (outcome (word_at bytes.old word) (at bytes.old check))) }
     ensures stores { bytes.new ≡ correct_at with_check (record { word = word; check = check }) bytes.old }
 {
-    let data = u64_or_zero(bytes, 8 * word);
+    // Read off its own eight bytes, a word is not held against the image's length again.
+    let start = 8 * word;
+    let data = u64_or_zero(&bytes[start..start + 8], 0);
     let found = bytes[check];
     let expected = table.check_byte(data);
     if expected == found {
