@@ -24,6 +24,7 @@ use Rattle.lemmas.proofs.CodeLaw.{flip_word_low}
 use Rattle.lemmas.proofs.Fold.{put_word_lem, word_length_lem, word_out, word_is, word_bytes}
 use Rattle.lemmas.proofs.CodewordLaw.{among_from, among_left, among_right}
 use Rattle.model.proofs.BytesLaw.{read_lt}
+use Rattle.model.proofs.ScanLaw.{words_visited}
 use Rattle.theorems.specs.ScrubSteps.{begun, entered, Before, first, next, Changes}
 use Rattle.theorems.proofs.Touches.{column_of, flipped_byte}
 
@@ -259,11 +260,6 @@ only_met x bx b m = go (parse_verdict x) m
     go (refuse c d) k = absurd (k refl)
 
 -- ---- nothing said
-
-words_visited : (ps : List Codeword) (s : State) → (scrub_words ps s).visited ≡ s.visited
-unfolding scrub_words scrub_word
-words_visited [] s = refl
-words_visited (p ∷ ps) s = words_visited ps (scrub_word p s)
 
 module _ (x : List ℕ) where
   -- no region was visited, so nothing was written
