@@ -109,13 +109,13 @@ enum { KW_WRITE_LENGTH = 0, KW_WRITE_NUMBERS = 1 };
 /* The most stack in bytes that a call takes, with its return address and without what `memset` takes.
    The number beside each is what was measured. */
 enum {
-    KW_PARSE_STACK = 2560,     /* 2216 */
-    KW_REGION_STACK = 2560,    /* 2264 */
+    KW_PARSE_STACK = 2560,     /* 2200 */
+    KW_REGION_STACK = 2560,    /* 2280 */
     KW_REGION_AT_STACK = 2560, /* 2264 */
-    KW_SCAN_STACK = 5120,      /* 4376 */
+    KW_SCAN_STACK = 5120,      /* 4360 */
     KW_SCRUB_STACK = 5120,     /* 4392 */
-    KW_MEND_STACK = 11264,     /* 10600 */
-    KW_WRITE_STACK = 13312     /* 12392 */
+    KW_MEND_STACK = 11264,     /* 10536 */
+    KW_WRITE_STACK = 13312     /* 8328 */
 };
 
 /* A refusal's name as docs/FORMAT.md has it, "Ok" for KW_OK, and "Unknown" for every other number. */

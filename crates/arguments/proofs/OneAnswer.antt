@@ -5,6 +5,7 @@ use Rattle.arguments.proofs.argument.is_standard.Reads as is-standard
 use Rattle.arguments.proofs.words.CommandTryFromU8.try_from.Reads as numbered-command
 use Rattle.arguments.proofs.words.WordFromU8.from.Reads as numbered-word
 use Rattle.arguments.proofs.invocation.FaultFromU8.from.Reads as numbered-fault
+use Rattle.arguments.proofs.numbers.InvocationFromNumbers.from.Reads as by-numbers
 use Rattle.arguments.proofs.invocation.start.Reads as start
 use Rattle.arguments.proofs.invocation.reports_on.Reads as reports-on
 use Rattle.arguments.proofs.invocation.step.Reads as step
@@ -33,6 +34,9 @@ one_answer_numbered_command κs a r r' s s' p q = agree p q
 
 pub one_answer_numbered_word : OneAnswer numbered-word.Learnt
 one_answer_numbered_word κs a r r' s s' p q = agree p q
+
+pub one_answer_by_numbers : OneAnswer by-numbers.Learnt
+one_answer_by_numbers κs a r r' s s' p q = agree p q
 
 pub one_answer_numbered_fault : OneAnswer numbered-fault.Learnt
 one_answer_numbered_fault κs a r r' s s' p q = agree p q

@@ -82,7 +82,7 @@ pub fn start() -> Invocation
 }
 
 // Argument 0 is the command's own name, and stands for none.
-fn numbered(place: usize) -> Option<usize>
+pub(crate) fn numbered(place: usize) -> Option<usize>
     ensures { result ≡ model.numbered place }
 {
     if place > 0 { Some(place) } else { None }

@@ -4,7 +4,7 @@ ghost use Rattle.model.specs.Views.{pool_range};
 ghost use Rattle.tables.specs.Answers.{as_place};
 ghost use Rattle.tables.specs.Parts.{VeryPartIn};
 
-use std::ops::Range;
+use tables::Place;
 
 #[derive(Clone, Copy)]
 pub struct Pool<'a> {
@@ -25,7 +25,7 @@ impl<'a> Pool<'a> {
     }
 
     // Where a part starts and ends, or nothing.
-    pub fn place(self, offset: u32, len: u32) -> Option<Range<usize>>
+    pub fn place(self, offset: u32, len: u32) -> Option<Place>
         ensures { as_place result ≡ pool_range (length self.entry.bytes.now) offset len }
     {
         place_in(self.bytes, offset, len)
@@ -40,7 +40,7 @@ impl<'a> Pool<'a> {
     }
 }
 
-fn place_in(bytes: &[u8], offset: u32, len: u32) -> Option<Range<usize>>
+fn place_in(bytes: &[u8], offset: u32, len: u32) -> Option<Place>
     ensures { as_place result ≡ pool_range (length bytes.now) offset len }
 {
     tables::pool_place(bytes.len(), offset, len)

@@ -4,7 +4,7 @@ ghost use Rattle.model.specs.Views.{is_table, record_count, record_range, range_
 ghost use Rattle.tables.specs.Answers.{as_place};
 ghost use Rattle.tables.specs.Parts.{PartAt, VeryPartIn};
 
-use std::ops::Range;
+use tables::Place;
 
 // Records of stride bytes, one behind the other.
 #[derive(Clone, Copy)]
@@ -48,7 +48,7 @@ impl<'a> RecordTable<'a> {
     }
 
     // Where a record starts and ends, or nothing.
-    pub fn place(self, index: usize) -> Option<Range<usize>>
+    pub fn place(self, index: usize) -> Option<Place>
         ensures { as_place result ≡ record_range (length self.entry.bytes.now) self.entry.stride index }
     {
         place_in(self.bytes, self.stride, index)
@@ -76,7 +76,7 @@ fn no_records(bytes: &[u8], stride: usize) -> bool
     tables::record_count(bytes, stride) == 0
 }
 
-fn place_in(bytes: &[u8], stride: usize, index: usize) -> Option<Range<usize>>
+fn place_in(bytes: &[u8], stride: usize, index: usize) -> Option<Place>
     ensures { as_place result ≡ record_range (length bytes.now) stride index }
 {
     tables::record_place(bytes.len(), stride, index)

@@ -11,7 +11,7 @@ use std::rt::Env;
 const TOO_LONG: i32 = 36;
 
 // The bytes of an argument, at the start of memory for the longest name. That is an array, and no Vec: no heap is needed to read the arguments,
-// so that what is wrong with them is said also where the system gives no memory.
+// so that what is wrong with them is said also where the system gives no memory. It is read in place: handed on by value, it would be copied for each argument.
 #[derive(Drop)]
 pub(crate) struct Argument {
     memory: [u8; 4096],
@@ -20,22 +20,31 @@ pub(crate) struct Argument {
 }
 
 impl Argument {
-    // Argument i, which is too long for any name where it does not fit.
-    pub(crate) fn at(rt: &HostRuntime, i: usize) -> Result<Argument, Error> {
-        let mut memory = io::buffer();
-        match rt.arg(i, &mut memory) {
-            Ok(len) => Ok(Argument { memory, len }),
+    pub(crate) fn empty() -> Argument {
+        Argument {
+            memory: io::buffer(),
+            len: 0,
+        }
+    }
+
+    // Reads argument i. Where it does not fit, it is too long for any name, and the length stays.
+    pub(crate) fn read(&mut self, rt: &HostRuntime, i: usize) -> Result<(), Error> {
+        match rt.arg(i, &mut self.memory) {
+            Ok(len) => {
+                self.len = len;
+                Ok(())
+            }
             Err(_) => Err(Error::from_raw_os_error(TOO_LONG)),
         }
     }
 
-    // Argument i, and none where it is too long, which is said of `what`.
-    pub(crate) fn told(rt: &HostRuntime, i: usize, what: &[u8]) -> Result<Option<Argument>, Gone> {
-        match Argument::at(rt, i) {
-            Ok(argument) => Ok(Some(argument)),
+    // Whether argument i could be read; where it is too long, that is said of `what`.
+    pub(crate) fn told(&mut self, rt: &HostRuntime, i: usize, what: &[u8]) -> Result<bool, Gone> {
+        match self.read(rt, i) {
+            Ok(()) => Ok(true),
             Err(error) => {
                 files::fail(rt, what, error)?;
-                Ok(None)
+                Ok(false)
             }
         }
     }
@@ -57,8 +66,9 @@ pub(crate) fn count(rt: &HostRuntime) -> usize {
 
 // What argument i is. One that is longer than any name is taken for a name, which can't be opened.
 pub(crate) fn word_at(rt: &HostRuntime, i: usize) -> Word {
-    match Argument::at(rt, i) {
-        Ok(argument) => arguments::word(argument.as_bytes()),
+    let mut argument = Argument::empty();
+    match argument.read(rt, i) {
+        Ok(()) => arguments::word(argument.as_bytes()),
         Err(_) => arguments::word(b""),
     }
 }

@@ -7,7 +7,7 @@ mod mend;
 mod report;
 mod said;
 
-use arguments::{Command, Fault, Files, Invocation, Misuse};
+use arguments::{Command, Files, Invocation, Misuse};
 use asked::Argument;
 use exit_status::FAILED;
 use failure::Gone;
@@ -33,15 +33,12 @@ fn run(rt: &HostRuntime, count: usize, invocation: Invocation) -> Result<u8, Gon
 
 // The argument at fault is not named where it is missing, or too long.
 fn refuse(rt: &HostRuntime, misuse: Misuse) -> Result<u8, Gone> {
-    match misuse.place.and_then(|place| Argument::at(rt, place).ok()) {
-        Some(word) => refuse_word(rt, misuse.fault, word.as_bytes()),
-        None => refuse_word(rt, misuse.fault, b""),
+    let mut word = Argument::empty();
+    if let Some(place) = misuse.place {
+        let _ = word.read(rt, place);
     }
-}
-
-fn refuse_word(rt: &HostRuntime, fault: Fault, word: &[u8]) -> Result<u8, Gone> {
     let mut line = [0u8; 4352];
-    let k = messages::fault(fault, word, &mut line);
+    let k = messages::fault(misuse.fault, word.as_bytes(), &mut line);
     said::say(rt, &line[..k])?;
     Ok(FAILED)
 }

@@ -49,10 +49,11 @@ fn mend_file(rt: &HostRuntime, name: &[u8], output: Option<&[u8]>) -> Result<u8,
 }
 
 fn mend_into(rt: &HostRuntime, name: &[u8], output: usize) -> Result<u8, Gone> {
-    match Argument::told(rt, output, b"-o")? {
-        Some(target) => mend_file(rt, name, Some(target.as_bytes())),
-        None => Ok(FAILED),
+    let mut target = Argument::empty();
+    if !target.told(rt, output, b"-o")? {
+        return Ok(FAILED);
     }
+    mend_file(rt, name, Some(target.as_bytes()))
 }
 
 fn mend_named(rt: &HostRuntime, name: &[u8], output: Option<usize>) -> Result<u8, Gone> {
@@ -64,8 +65,9 @@ fn mend_named(rt: &HostRuntime, name: &[u8], output: Option<usize>) -> Result<u8
 
 // Mends the file that argument `file` names, into the one that argument `output` names, or in place where there is none.
 pub(crate) fn mend(rt: &HostRuntime, file: usize, output: Option<usize>) -> Result<u8, Gone> {
-    match Argument::told(rt, file, b"FILE")? {
-        Some(name) => mend_named(rt, name.as_bytes(), output),
-        None => Ok(FAILED),
+    let mut name = Argument::empty();
+    if !name.told(rt, file, b"FILE")? {
+        return Ok(FAILED);
     }
+    mend_named(rt, name.as_bytes(), output)
 }

@@ -31,10 +31,11 @@ fn report_argument(
     image: &mut [u8],
     several: bool,
 ) -> Result<u8, Gone> {
-    match Argument::told(rt, i, b"FILE")? {
-        Some(name) => report_file(rt, name.as_bytes(), image, several),
-        None => Ok(FAILED),
+    let mut name = Argument::empty();
+    if !name.told(rt, i, b"FILE")? {
+        return Ok(FAILED);
     }
+    report_file(rt, name.as_bytes(), image, several)
 }
 
 fn report_all(rt: &HostRuntime, image: &mut [u8], count: usize, several: bool) -> Result<u8, Gone> {

@@ -52,9 +52,10 @@ fn repair_word(
     ensures is { as_outcome result ≡ outcome (word_at bytes.old word) (at bytes.old check) }
     ensures stores { bytes.new ≡ correct_at with_check (record { word = word; check = check }) bytes.old }
 {
+    // Read as correct_word reads it, so that its check byte is not computed again.
     let start = 8 * word;
     let end = start + 8;
-    let data = u64_or_zero(bytes, start);
+    let data = u64_or_zero(&bytes[start..end], 0);
     let found = bytes[check];
     let status = table.decode_word(data, found);
     match status {

@@ -15,7 +15,7 @@ use Rattle.ecc.proofs.EccReport.is_clean.Reads as is_clean
 use Rattle.ecc.proofs.EccReport.needs_scrub.Reads as needs-scrub
 use Rattle.ecc.proofs.plane_word.Reads as plane_word_lem
 use Rattle.ecc.proofs.plane_scan.Reads as plane-scan
-use Rattle.ecc.proofs.check_table.CheckTable.new.Reads as table-new
+use Rattle.ecc.proofs.check_table.CheckTable.of.Reads as table-of
 use Rattle.ecc.proofs.check_table.CheckTable.check_byte.Reads as table-check-byte
 use Rattle.ecc.proofs.check_table.CheckTable.decode_word.Reads as table-decode-word
 use Rattle.ecc.proofs.check_table.CheckTable.plane_scan.Reads as table-plane-scan
@@ -85,8 +85,8 @@ pub one_answer_plane_scan_with : OneAnswer plane-scan-with.Learnt
 one_answer_plane_scan_with κs a r r' s s' p q = one_report r r' (agree p q)
 
 -- in what the table holds: where it lies is the caller's
-pub one_answer_table_new : One table-new.Learnt (λ κs r r' s s'. r.entries.now ≡ r'.entries.now)
-one_answer_table_new κs a r r' s s' p q = agree p q
+pub one_answer_table_of : One table-of.Learnt (λ κs r r' s s'. r.entries ≡ r'.entries)
+one_answer_table_of κs a r r' s s' p q = agree p q
 
 pub one_answer_table_check_byte : OneAnswer table-check-byte.Learnt
 one_answer_table_check_byte κs a r r' s s' p q = agree p q

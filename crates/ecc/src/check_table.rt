@@ -9,11 +9,11 @@ ghost use Rattle.ecc.specs.CheckTable.{IsCheckTable, Filled, entry_for, check_wi
 
 use super::{COLUMNS, EccReport, WordStatus, one_if_corrected, plane_words, status_of};
 
-// A table for `CheckTable::new` to fill.
+// A table for `fill_check_table` to fill.
 pub const EMPTY_TABLE: [u8; 2048] = [0u8; 2048];
 
 // The table of check bytes, in a buffer that is lent: a copy of it is a pointer. Returned by value, the buffer itself would be
-// copied by `memcpy`, and firmware may have none.
+// copied by `memcpy`, and firmware may have none. It takes less than a microsecond to fill: fill it once for many words, and hand it on.
 #[derive(Clone, Copy)]
 pub struct CheckTable<'a> {
     entries: &'a [u8; 2048],
@@ -21,12 +21,12 @@ pub struct CheckTable<'a> {
 }
 
 impl<'a> CheckTable<'a> {
-    // It takes less than a microsecond: make it once for many words, and hand it on.
-    pub fn new(room: &'a mut [u8; 2048]) -> CheckTable<'a>
-        ensures { IsCheckTable result.entries.now }
+    // The table in a buffer that `fill_check_table` filled. It asks no more than to read the buffer, so that one filling serves for many tables.
+    pub fn of(entries: &'a [u8; 2048]) -> CheckTable<'a>
+        requires { IsCheckTable entries.now }
+        ensures { result.entries ≡ entries.entry }
     {
-        fill_check_table(room);
-        CheckTable { entries: room }
+        CheckTable { entries }
     }
 
     #[tactic(auto, using(crate::proofs::CheckTableLaw::table_check))]

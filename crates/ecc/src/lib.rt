@@ -165,5 +165,6 @@ pub fn plane_scan(parity: &[u8], data: &[u8]) -> EccReport
     ensures { as_report result ≡ slice_scan «data».now parity.now }
 {
     let mut room = EMPTY_TABLE;
-    CheckTable::new(&mut room).plane_scan(parity, data)
+    fill_check_table(&mut room);
+    CheckTable::of(&room).plane_scan(parity, data)
 }

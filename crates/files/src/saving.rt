@@ -1,5 +1,5 @@
 // A file that is written: beside the one that it replaces, synced and renamed over it.
-use crate::links::resolved;
+use crate::links::{Name, resolve};
 use crate::names::path;
 use crate::{beside, open, print, told};
 use failure::Gone;
@@ -94,7 +94,8 @@ fn replace_resolved(
     about: FileKind,
     image: &[u8],
 ) -> Result<(), Error> {
-    let target = resolved(rt, name)?;
+    let mut target = Name::empty();
+    resolve(rt, name, &mut target)?;
     let new = Replacing {
         target: target.as_bytes(),
         about,
@@ -131,7 +132,9 @@ fn save_made(rt: &HostRuntime, name: &[u8], target: &[u8], image: &[u8]) -> Resu
 }
 
 fn save_new(rt: &HostRuntime, name: &[u8], image: &[u8]) -> Result<(), Error> {
-    save_made(rt, name, resolved(rt, name)?.as_bytes(), image)
+    let mut target = Name::empty();
+    resolve(rt, name, &mut target)?;
+    save_made(rt, name, target.as_bytes(), image)
 }
 
 fn open_append(rt: &HostRuntime, name: &[u8]) -> Result<File, Error> {

@@ -10,9 +10,9 @@ ghost use Rattle.kw_test.specs.Reader.{span_numbers, place_numbers, part_numbers
 use super::reader::place_numbers;
 use error::Refusal;
 use layout::Region;
-use std::ops::Range;
+use tables::Place;
 
-fn span_numbers(span: Result<Range<usize>, Refusal>) -> [u64; 3]
+fn span_numbers(span: Result<Place, Refusal>) -> [u64; 3]
     ensures { result ≡ span_numbers (as_span span) }
 {
     match span {

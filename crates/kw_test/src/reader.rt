@@ -6,7 +6,7 @@ ghost use Rattle.tables.specs.Answers.{as_place};
 ghost use Rattle.kw_test.specs.Reader.{parsed_numbers, found_numbers, entry_numbers, place_numbers};
 
 use layout::Region;
-use std::ops::Range;
+use tables::Place;
 use view::Header;
 
 pub(crate) fn header_of(count: u16) -> Header
@@ -35,7 +35,7 @@ fn found_numbers(found: Option<Region>) -> [u64; 6]
     }
 }
 
-pub(crate) fn place_numbers(place: Option<Range<usize>>) -> [u64; 3]
+pub(crate) fn place_numbers(place: Option<Place>) -> [u64; 3]
     ensures { result ≡ place_numbers (as_place place) }
 {
     match place {

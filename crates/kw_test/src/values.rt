@@ -14,7 +14,7 @@ use super::reader::place_numbers;
 use super::word_numbers;
 use borrowed::{EccPlane, Pool, RecordTable};
 use ecc::{EccReport, WordStatus};
-use std::ops::Range;
+use tables::Place;
 
 fn size_answer(len: usize, empty: bool, stride: usize) -> [u64; 3]
     ensures { result ≡ len ∷ num empty ∷ stride ∷ [] }
@@ -29,7 +29,7 @@ fn table_size(bytes: &[u8], stride: usize) -> [u64; 3]
     size_answer(table.len(), table.is_empty(), table.stride())
 }
 
-fn part_answer(place: Option<Range<usize>>, part: &[u8]) -> [u64; 5]
+fn part_answer(place: Option<Place>, part: &[u8]) -> [u64; 5]
     ensures { result ≡ part_answer (as_place place) part.now }
 {
     let p = place_numbers(place);
@@ -52,7 +52,7 @@ fn table_forward(bytes: &[u8], stride: usize, at: usize, first: u32, count: u32)
     table.range_is_forward(at, first, count)
 }
 
-fn pool_answer<'a>(whole: &'a [u8], place: Option<Range<usize>>, part: &'a [u8]) -> [u64; 7]
+fn pool_answer<'a>(whole: &'a [u8], place: Option<Place>, part: &'a [u8]) -> [u64; 7]
     ensures { result ≡ part_numbers whole.now ++ part_answer (as_place place) part.now }
 {
     let w = part_numbers(whole);

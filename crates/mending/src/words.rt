@@ -6,7 +6,7 @@ ghost use Rattle.scan.specs.Answers.{as_scan};
 ghost use Rattle.mending.specs.Mendable.{Mendable};
 
 use correcting::correct_region;
-use ecc::{CheckTable, EMPTY_TABLE, EccReport};
+use ecc::{CheckTable, EMPTY_TABLE, EccReport, fill_check_table};
 use scan::together;
 use view::Header;
 
@@ -17,7 +17,8 @@ pub(crate) fn mend_words(bytes: &mut [u8], header: Header) -> Option<EccReport>
     ensures tells { as_scan result ≡ scan bytes.old }
 {
     let mut room = EMPTY_TABLE;
-    let table = CheckTable::new(&mut room);
+    fill_check_table(&mut room);
+    let table = CheckTable::of(&room);
     let mut total = None;
     for i in 0..header.region_count {
         let found = correct_region(table, bytes, header, i, true);

@@ -1,5 +1,5 @@
 -- No two answers fit one promise, nor two sets of kinds that are left. Assumes nothing.
-use Rattle.std.proofs.Common.{◌≡◌, ℕ, Result, Ok, Err, IfOk, OnOk, OnErr, List, sym, ap, ◌∙◌, arith}
+use Rattle.std.proofs.Common.{◌≡◌, refl, ℕ, Result, Ok, Err, IfOk, OnOk, OnErr, List, sym, ap, ◌∙◌, arith}
 use Rattle.model.specs.Writer as model
 use Rattle.model.specs.Writer.{regions}
 use Rattle.model.proofs.OneAnswer.{OneAnswer, OneAnswerAnd, agree}
@@ -10,6 +10,8 @@ use Rattle.plan.specs.Rows.{as_rows_verdict}
 use Rattle.plan.proofs.rows.Row.is_protected.Reads as is-protected
 use Rattle.plan.proofs.rows.Row.plane_words.Reads as plane-words
 use Rattle.plan.proofs.kinds.Kinds.new.Reads as new-kinds
+use Rattle.plan.proofs.kinds.Kinds.contains.Reads as contains-kind
+use Rattle.plan.proofs.kinds.Kinds.insert.Reads as insert-kind
 use Rattle.plan.proofs.rows.check_row.Reads as check-row
 use Rattle.plan.proofs.rows.check_rows.Reads as check-rows
 use Rattle.plan.proofs.sizes.check_sizes.Reads as check-sizes
@@ -36,6 +38,12 @@ one_answer_plane_words κs a r r' s s' p q = agree p.0 q.0
 
 pub one_answer_new : OneAnswer new-kinds.Learnt
 one_answer_new κs a r r' s s' p q = λ j. record { bits = agree p q j }
+
+pub one_answer_contains : OneAnswer contains-kind.Learnt
+one_answer_contains κs a r r' s s' p q = agree p q
+
+pub one_answer_insert : OneAnswerAnd insert-kind.Learnt (λ κs s. s.0.now.bits)
+one_answer_insert κs a r r' s s' p q = (refl, agree p q)
 
 pub one_answer_check_row : OneAnswerAnd check-row.Learnt (λ κs s. s.0.now.bits)
 one_answer_check_row κs a r r' s s' p q = (one_check r r' (agree p.0 q.0), one_left _ _ r r' (agree p.0 q.0) p.1.0 p.1.1 q.1.0 q.1.1)

@@ -8,12 +8,12 @@ const KIND_WORDS: usize = 1024;
 // A bit for each kind, so that a kind is looked up at once, also in a plan of more rows than an image can have.
 // The sets of std lie on the heap, which no library of this project uses.
 #[derive(Drop)]
-pub(crate) struct Kinds {
+pub struct Kinds {
     bits: [u64; KIND_WORDS],
 }
 
 impl Kinds {
-    pub(crate) fn new() -> Kinds
+    pub fn new() -> Kinds
         ensures { result.bits ≡ replicate 1024 0 }
     {
         Kinds {
@@ -22,13 +22,13 @@ impl Kinds {
     }
 
     // Whether the kind was seen.
-    pub(crate) fn contains(&self, kind: u16) -> bool
+    pub fn contains(&self, kind: u16) -> bool
         ensures { result ≡ marked self.now.bits kind }
     {
         self.bits[(kind / 64) as usize] & bit_of(kind) != 0
     }
 
-    pub(crate) fn insert(&mut self, kind: u16)
+    pub fn insert(&mut self, kind: u16)
         ensures { self.new.bits ≡ with_mark self.old.bits kind }
     {
         self.bits[(kind / 64) as usize] |= bit_of(kind);

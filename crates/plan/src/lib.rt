@@ -5,5 +5,6 @@ mod kinds;
 mod rows;
 mod sizes;
 
-pub use rows::{Row, check_rows};
+pub use kinds::Kinds;
+pub use rows::{Row, check_row, check_rows};
 pub use sizes::check_sizes;

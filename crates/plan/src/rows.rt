@@ -58,7 +58,7 @@ impl Row {
 }
 
 // The checks of row i in their order, and then its mark.
-pub(crate) fn check_row(seen: &mut Kinds, i: usize, row: Row) -> Result<(), Refusal>
+pub fn check_row(seen: &mut Kinds, i: usize, row: Row) -> Result<(), Refusal>
     ensures is { as_check result ≡ row_verdict seen.old.bits i row }
     ensures ok { OnOk result (seen.new.bits ≡ with_mark seen.old.bits row.kind) }
     ensures err { OnErr result (seen.new.bits ≡ seen.old.bits) }

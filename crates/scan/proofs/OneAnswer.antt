@@ -15,6 +15,7 @@ use Rattle.scan.proofs.verify_region.Reads as verify-region
 use Rattle.scan.proofs.verify_all.Reads as verify-all
 use Rattle.scan.proofs.runs.protected_run_at.Reads as protected-run-at
 use Rattle.scan.proofs.tally.together.Reads as together
+use Rattle.scan.proofs.tally.visit.Reads as visit
 use Rattle.scan.proofs.tally.count_word.Reads as count-word
 
 pub one_scan : (a b : Option EccReport) → as_scan a ≡ as_scan b → a ≡ b
@@ -37,6 +38,9 @@ one_answer_verify_all κs a r r' s s' p q = one_scan r r' (agree p q)
 
 pub one_answer_protected_run_at : OneAnswer protected-run-at.Learnt
 one_answer_protected_run_at κs a r r' s s' p q = run_is _ _ r p ∙ sym (run_is _ _ r' q)
+
+pub one_answer_visit : OneAnswer visit.Learnt
+one_answer_visit κs a r r' s s' p q = one_scan r r' (agree p q)
 
 pub one_answer_together : OneAnswer together.Learnt
 one_answer_together κs a r r' s s' p q = one_scan r r' (agree p q)

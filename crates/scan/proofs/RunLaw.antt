@@ -3,7 +3,7 @@ use mathlib.Core.Path.{◌≡◌, refl, sym, ap, ap₂, ◌∙◌, subst}
 use mathlib.Core.Bool.{Bool, true, false, ◌&&◌, cond}
 use mathlib.Core.List.{List, [], ◌∷◌}
 use Rattle.std.specs.Prelude.{Option, None, Some, Result, Ok, Err}
-use Rattle.std.specs.declared.ops.Range as std
+use Rattle.tables.specs.declared.Place.{Place}
 use Prim.Native.Nat.{ℕ, zero, suc, ◌+◌, ◌-◌, ◌*◌, ◌^◌, ◌≤◌, ◌<◌, min}
 use native.Mathlib.Nat.{min-le_left, min-le_right}
 use native.Mathlib.Omega.{arith}
@@ -29,21 +29,21 @@ use Rattle.scan.specs.Runs.{visits_at, first_run, codewords_of, IsRunOf, IsRun}
 -- ---- a protected region
 
 -- pl is the place of the plane of r's kind
-pub no_plane_lem : (n : ℕ) (x : List ℕ) (r : Region) (pl : Option (std.Range ℕ)) → as_place pl ≡ ecc_for n x r.kind → pl ≡ None
+pub no_plane_lem : (n : ℕ) (x : List ℕ) (r : Region) (pl : Option Place) → as_place pl ≡ ecc_for n x r.kind → pl ≡ None
     → plane_of (length x) (entries_for n x) (as_entry r) ≡ None
 unfolding plane_of ecc_for
 no_plane_lem n x r pl e f =
     plane-law.no_place (length x) (as_entry r) (first_that (plane_for r.kind) (entries_for n x)) (ap as_place (sym f) ∙ e)
 
 -- and sp r's own span
-module _ (n : ℕ) (x : List ℕ) (r : Region) (pl : Option (std.Range ℕ)) (sp : Result (std.Range ℕ) Refusal) (ep : as_place pl ≡ ecc_for n x r.kind) (es : as_span sp ≡ bytes_span (length x) (as_entry r)) where
+module _ (n : ℕ) (x : List ℕ) (r : Region) (pl : Option Place) (sp : Result Place Refusal) (ep : as_place pl ≡ ecc_for n x r.kind) (es : as_span sp ≡ bytes_span (length x) (as_entry r)) where
   pub past_end : (s : Refusal) → sp ≡ Err s → plane_of (length x) (entries_for n x) (as_entry r) ≡ None
   unfolding plane_of
   past_end s f =
       plane-law.region_outside (length x) (as_entry r) (first_that (plane_for r.kind) (entries_for n x))
       (plane-law.outside (length x) (as_entry r) _ _ (ap as_span (sym f) ∙ es))
 
-  module _ (q s : std.Range ℕ) (fp : pl ≡ Some q) (fs : sp ≡ Ok s) where
+  module _ (q s : Place) (fp : pl ≡ Some q) (fs : sp ≡ Ok s) where
     plane : plane-law.Plane (length x) (as_entry r) (first_that (plane_for r.kind) (entries_for n x)) q.start q.end
     unfolding ecc_for
     plane =

@@ -1,5 +1,5 @@
 -- Steps of code, for the contracts of building blocks that other crates call; no statement of the demands speaks of them. What a scan, scrub or mend has counted so far: a report, and nothing before the first region that is visited. (FORMAT 7, 8, 10)
-use Rattle.std.specs.Prelude.{List, ℕ, ◌+◌, ◌^◌, ◌≤◌, Option, None, Some}
+use Rattle.std.specs.Prelude.{Bool, true, false, List, ℕ, ◌+◌, ◌^◌, ◌≤◌, Option, None, Some}
 use Rattle.model.specs.Bytes.{given}
 use Rattle.model.specs.Parity.{Class, Outcome, clean_word, corrected_word, uncorrectable_word}
 use Rattle.model.specs.Scan.{Report, report, Visit}
@@ -19,6 +19,11 @@ together (Some a) (Some b) = Some (plus a b)
 abbrev pub or_zeros : Option Report → Report
 or_zeros None = no_report
 or_zeros (Some r) = r
+
+-- a region more, which was visited or not: with one that was, there is a report, even without words
+abbrev pub marked : Option Report → Bool → Option Report
+marked o false = o
+marked o true = Some (or_zeros o)
 
 -- one word, by what became of it
 abbrev pub report_on : Outcome → Report

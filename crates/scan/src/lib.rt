@@ -12,11 +12,11 @@ ghost use Rattle.scan.specs.Answers.{as_scan};
 ghost use Rattle.scan.specs.Runs.{codewords_of, visits_at, Fits};
 ghost use Rattle.scan.specs.Tally.{or_zeros};
 
-use ecc::{CheckTable, EMPTY_TABLE, EccReport};
+use ecc::{CheckTable, EMPTY_TABLE, EccReport, fill_check_table};
 use layout::Region;
 use runs::run_with_plane;
 pub use runs::{ProtectedRun, protected_run_at};
-pub use tally::{count_word, together};
+pub use tally::{count_word, together, visit};
 use view::Header;
 
 #[tactic(auto, using(model::proofs::ScanLaw::slice_scan_lem))]
@@ -45,7 +45,8 @@ pub fn verify_region(bytes: &[u8], header: Header, region: Region) -> Option<Ecc
     ensures { as_scan result ≡ scan_region header.region_count bytes.now (as_entry region) }
 {
     let mut room = EMPTY_TABLE;
-    let table = CheckTable::new(&mut room);
+    fill_check_table(&mut room);
+    let table = CheckTable::of(&room);
     let run = run_with_plane(bytes, header, region)?;
     Some(scan_run(table, bytes, run))
 }
@@ -55,7 +56,8 @@ pub fn verify_all(bytes: &[u8], header: Header) -> Option<EccReport>
     ensures { as_scan result ≡ scan_in header.region_count bytes.now }
 {
     let mut room = EMPTY_TABLE;
-    let table = CheckTable::new(&mut room);
+    fill_check_table(&mut room);
+    let table = CheckTable::of(&room);
     let mut total = None;
     for i in 0..header.region_count {
         let found = scan_entry(table, bytes, header, i);

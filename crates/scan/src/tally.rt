@@ -3,9 +3,19 @@ ghost use Rattle.std.specs.Prelude.{◌≡◌};
 ghost use Rattle.model.specs.Steps.{plus};
 ghost use Rattle.ecc.specs.Answers.{as_outcome, as_report};
 ghost use Rattle.scan.specs.Answers.{as_scan};
-ghost use Rattle.scan.specs.Tally.{together, or_zeros, report_on, Bounded, Room};
+ghost use Rattle.scan.specs.Tally.{together, marked, or_zeros, report_on, Bounded, Room};
 
 use ecc::{EccReport, WordStatus};
+
+// Notes whether a region was visited. With one that was, there is a report, even without words.
+pub fn visit(total: Option<EccReport>, visited: bool) -> Option<EccReport>
+    ensures { as_scan result ≡ marked (as_scan total) visited }
+{
+    match (total, visited) {
+        (None, true) => Some(EccReport::default()),
+        _ => total,
+    }
+}
 
 fn sum(a: EccReport, b: EccReport) -> EccReport
     requires { Room b.words (as_report a) × Bounded (as_report b) }

@@ -6,7 +6,7 @@ ghost use Rattle.scan.specs.Answers.{as_scan};
 ghost use Rattle.model.specs.Scrub as model;
 
 use correcting::correct_region;
-use ecc::{CheckTable, EMPTY_TABLE, EccReport};
+use ecc::{CheckTable, EMPTY_TABLE, EccReport, fill_check_table};
 use scan::together;
 use view::parse;
 
@@ -20,7 +20,8 @@ pub fn scrub(bytes: &mut [u8]) -> Option<EccReport>
         return None;
     };
     let mut room = EMPTY_TABLE;
-    let table = CheckTable::new(&mut room);
+    fill_check_table(&mut room);
+    let table = CheckTable::of(&room);
     let mut header = first;
     let mut written = false;
     let mut total = None;

@@ -4,12 +4,12 @@ use mathlib.Core.List.{List}
 use Prim.Native.Nat.{ℕ}
 use denote.Ref.{Bor}
 use Rattle.std.specs.Prelude.{Option, Some, None, Result, Ok, Err}
-use Rattle.std.specs.declared.ops.Range as std
 use Rattle.model.specs.Views.{Range}
 use Rattle.error.specs.declared.Refusal.{Refusal}
 use Rattle.model.proofs.OneAnswer.{One, OneAnswer, agree}
 use Rattle.error.specs.Refused.{as_verdict}
 use Rattle.error.proofs.OneAnswer.{one_refusal}
+use Rattle.tables.specs.declared.Place.{Place}
 use Rattle.tables.specs.Answers.{as_range, as_span, as_place}
 use Rattle.tables.specs.Parts.{PartAt}
 use Rattle.tables.proofs.region_span.Reads as region-span
@@ -24,16 +24,16 @@ use Rattle.tables.proofs.range_is_forward.Reads as range-is-forward
 use Rattle.tables.proofs.pool_place.Reads as pool-place
 use Rattle.tables.proofs.pool_bytes.Reads as pool_bytes
 
-pub one_range : (r s : std.Range ℕ) → as_range r ≡ as_range s → r ≡ s
+pub one_range : (r s : Place) → as_range r ≡ as_range s → r ≡ s
 one_range r s e = ap (λ (p : Range). record { start = p.first; end = p.past }) e
 
-pub one_span : (a b : Result (std.Range ℕ) Refusal) → as_span a ≡ as_span b → a ≡ b
+pub one_span : (a b : Result Place Refusal) → as_span a ≡ as_span b → a ≡ b
 one_span (Ok r) (Ok s) e = let f : as_range r ≡ as_range s = cc in ap Ok (one_range r s f)
 one_span (Ok r) (Err q) e = cc
 one_span (Err q) (Ok r) e = cc
 one_span (Err r) (Err q) e = let v : as_verdict r ≡ as_verdict q = cc in ap Err (one_refusal r q v)
 
-pub one_place : (a b : Option (std.Range ℕ)) → as_place a ≡ as_place b → a ≡ b
+pub one_place : (a b : Option Place) → as_place a ≡ as_place b → a ≡ b
 one_place (Some r) (Some s) e = let f : as_range r ≡ as_range s = cc in ap Some (one_range r s f)
 one_place (Some r) None e = cc
 one_place None (Some s) e = cc

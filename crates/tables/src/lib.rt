@@ -11,28 +11,37 @@ ghost use Rattle.tables.specs.Parts.{VeryPartOf, VeryPartIn};
 
 use error::Refusal;
 use layout::Region;
-use std::ops::Range;
+
+// Where a part of the bytes starts, and the byte past its last. No range of std, which is no Copy.
+#[derive(Clone, Copy, Debug, PartialEq, Eq)]
+pub struct Place {
+    pub start: usize,
+    pub end: usize,
+}
 
 // The very bytes of a place; where there is none, the empty slice at their front.
-fn part_at(bytes: &[u8], place: Option<Range<usize>>) -> &[u8]
+fn part_at(bytes: &[u8], place: Option<Place>) -> &[u8]
     requires { IfSome place (λ r. (r.start ≤ r.end) × (r.end ≤ length bytes.now)) }
     ensures { VeryPartIn bytes.entry result (as_place place) }
 {
     match place {
-        Some(range) => &bytes[range],
+        Some(part) => &bytes[part.start..part.end],
         None => &bytes[..0],
     }
 }
 
 // A region's place in an image of len bytes.
-pub fn region_span(len: usize, region: Region) -> Result<Range<usize>, Refusal>
+pub fn region_span(len: usize, region: Region) -> Result<Place, Refusal>
     ensures { as_span result ≡ bytes_span len (as_entry region) }
 {
     let end = region.byte_end();
     if len < end {
         return Err(Refusal::RegionOutOfBounds { index: 0 });
     }
-    Ok(region.byte_offset()..end)
+    Ok(Place {
+        start: region.byte_offset(),
+        end,
+    })
 }
 
 // The very bytes of a region; none if refused.
@@ -43,7 +52,7 @@ pub fn region_bytes(bytes: &[u8], region: Region) -> &[u8]
 }
 
 // Where the bytes of a region start and end that is a table of records of stride bytes, or why it is no such table.
-pub fn records_span(len: usize, region: Region, stride: usize) -> Result<Range<usize>, Refusal>
+pub fn records_span(len: usize, region: Region, stride: usize) -> Result<Place, Refusal>
     ensures { as_span result ≡ table_span len (as_entry region) stride }
 {
     if stride == 0 {
@@ -59,7 +68,10 @@ pub fn records_span(len: usize, region: Region, stride: usize) -> Result<Range<u
     if region.byte_length() % stride != 0 {
         return Err(Refusal::BadRecordStride);
     }
-    Ok(region.byte_offset()..end)
+    Ok(Place {
+        start: region.byte_offset(),
+        end,
+    })
 }
 
 pub fn records_bytes(bytes: &[u8], region: Region, stride: usize) -> &[u8]
@@ -89,7 +101,7 @@ pub fn record_count(bytes: &[u8], stride: usize) -> usize
 }
 
 // Where record index of a table of len bytes starts and ends, or nothing.
-pub fn record_place(len: usize, stride: usize, index: usize) -> Option<Range<usize>>
+pub fn record_place(len: usize, stride: usize, index: usize) -> Option<Place>
     ensures { as_place result ≡ record_range len stride index }
 {
     if stride == 0 {
@@ -97,7 +109,10 @@ pub fn record_place(len: usize, stride: usize, index: usize) -> Option<Range<usi
     }
     if index < len / stride {
         let start = index * stride;
-        Some(start..start + stride)
+        Some(Place {
+            start,
+            end: start + stride,
+        })
     } else {
         None
     }
@@ -121,12 +136,16 @@ pub fn range_is_forward(bytes: &[u8], stride: usize, at: usize, first: u32, coun
 }
 
 // Where an offset and a length lie in a pool of len bytes, or nothing where they end past it.
-pub fn pool_place(len: usize, offset: u32, size: u32) -> Option<Range<usize>>
+pub fn pool_place(len: usize, offset: u32, size: u32) -> Option<Place>
     ensures { as_place result ≡ pool_range len offset size }
 {
     let start = offset as usize;
     let end = start + size as usize;
-    if end <= len { Some(start..end) } else { None }
+    if end <= len {
+        Some(Place { start, end })
+    } else {
+        None
+    }
 }
 
 pub fn pool_bytes(bytes: &[u8], offset: u32, size: u32) -> &[u8]

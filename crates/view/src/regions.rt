@@ -8,7 +8,7 @@ ghost use Rattle.view.specs.Answers.{found_as};
 use super::header::Header;
 use crate::directory::Directory;
 use layout::Region;
-use std::ops::Range;
+use tables::Place;
 
 // Directory entry index.
 pub fn region_at(bytes: &[u8], header: Header, index: u16) -> Option<Region>
@@ -36,7 +36,7 @@ pub fn find_region(bytes: &[u8], header: Header, kind: u16) -> Option<Region>
 }
 
 // Where the plane of a region stands, if its bytes are all there.
-pub fn ecc_for(bytes: &[u8], header: Header, region: Region) -> Option<Range<usize>>
+pub fn ecc_for(bytes: &[u8], header: Header, region: Region) -> Option<Place>
     ensures { as_place result ≡ ecc_for header.region_count bytes.now region.kind }
 {
     let directory = Directory::of(bytes, header.region_count)?;
@@ -45,5 +45,8 @@ pub fn ecc_for(bytes: &[u8], header: Header, region: Region) -> Option<Range<usi
     if bytes.len() < end {
         return None;
     }
-    Some(plane.byte_offset()..end)
+    Some(Place {
+        start: plane.byte_offset(),
+        end,
+    })
 }

@@ -8,7 +8,7 @@ use Rattle.model.specs.Bytes.{le_bytes}
 use Rattle.model.proofs.BytesLaw.{length_le_bytes}
 use Rattle.scan.proofs.WordLaw.{decoded}
 use Rattle.put.proofs.PutLaw.{came_back}
-use Rattle.correcting.proofs.CorrectLaw.{kept_clean, kept_uncorrectable, put_corrected}
+use Rattle.correcting.proofs.CorrectLaw.{kept_clean, kept_uncorrectable, put_corrected, read_part}
 use Rattle.correcting.proofs.repair_word.Goals as goal
 
 -- `correcting::repair_word` meets its contract. Assumes nothing.
@@ -17,8 +17,8 @@ returns-in-Clean c =
     let u = c.u64_or_zero-data in
     let g = c.args in
     record {
-      is = decoded g.bytes.now g.word g.check u.result c.requires.0 u.ensures c.decode_word-status.ensures;
-      stores = kept_clean g.with_check g.bytes.now (record { word = g.word; check = g.check }) _ (decoded g.bytes.now g.word g.check u.result c.requires.0 u.ensures c.in-Clean.ensures);
+      is = decoded g.bytes.now g.word g.check u.result c.requires.0 (read_part g.bytes.now (8 * g.word) u.result (omega (arith, c.requires.0)) u.ensures) c.decode_word-status.ensures;
+      stores = kept_clean g.with_check g.bytes.now (record { word = g.word; check = g.check }) _ (decoded g.bytes.now g.word g.check u.result c.requires.0 (read_part g.bytes.now (8 * g.word) u.result (omega (arith, c.requires.0)) u.ensures) c.in-Clean.ensures);
     }
 
 pub shape_of-bytes-in-Corrected : goal.shape_of-bytes-in-Corrected
@@ -31,7 +31,7 @@ returns-in-Corrected c =
     let v = c.in-Corrected.fixed in
     let y = c.store_check.new.bytes in
     let a = 8 * g.word in
-    let e = decoded g.bytes.now g.word g.check u.result c.requires.0 u.ensures c.in-Corrected.ensures in record {
+    let e = decoded g.bytes.now g.word g.check u.result c.requires.0 (read_part g.bytes.now (8 * g.word) u.result (omega (arith, c.requires.0)) u.ensures) c.in-Corrected.ensures in record {
       is = e;
       stores = ap (put_mid a (a + 8 - a) y) c.store_word.ensures
           ∙ (came_back y (le_bytes 8 v) a 8 (length_le_bytes 8 v) (omega (arith, c.requires.0, c.store_check.auto.bytes)) refl).stored
@@ -43,6 +43,6 @@ returns-in-Uncorrectable c =
     let u = c.u64_or_zero-data in
     let g = c.args in
     record {
-      is = decoded g.bytes.now g.word g.check u.result c.requires.0 u.ensures c.decode_word-status.ensures;
-      stores = kept_uncorrectable g.with_check g.bytes.now (record { word = g.word; check = g.check }) (decoded g.bytes.now g.word g.check u.result c.requires.0 u.ensures c.in-Uncorrectable.ensures);
+      is = decoded g.bytes.now g.word g.check u.result c.requires.0 (read_part g.bytes.now (8 * g.word) u.result (omega (arith, c.requires.0)) u.ensures) c.decode_word-status.ensures;
+      stores = kept_uncorrectable g.with_check g.bytes.now (record { word = g.word; check = g.check }) (decoded g.bytes.now g.word g.check u.result c.requires.0 (read_part g.bytes.now (8 * g.word) u.result (omega (arith, c.requires.0)) u.ensures) c.in-Uncorrectable.ensures);
     }
