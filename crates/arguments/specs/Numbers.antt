@@ -1,4 +1,4 @@
--- The invocation that eight numbers stand for. A number that stands for nothing of its own is taken as the one that means the same: a command past the last takes no file and no option, as the last; more files than two are several; any other state reads the next argument as it comes; any other fault is the last one's. (FORMAT 14)
+-- The invocation that eight numbers stand for. A number that stands for nothing of its own is taken as the one that means the same: a command past the last takes no file, as the last; more files than two are several; any other state reads the next argument as it comes; any other fault is the last one's. (FORMAT 14)
 use Rattle.std.specs.Prelude.{cond, ℕ, Option, Some, None, eqb}
 use Rattle.arguments.specs.Arguments.{numbered, fault_numbered}
 use Rattle.arguments.specs.declared.words.Command.{Command}

@@ -18,7 +18,7 @@ pub struct Numbers {
     pub place: usize,
 }
 
-// Any number past the last command's is the last one's, which takes no file and no option either.
+// Any number past the last command's is the last one's, which takes no file either.
 fn command(number: u8) -> Option<Command>
     ensures { result ≡ model.command_of number }
 {

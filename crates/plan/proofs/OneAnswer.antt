@@ -9,6 +9,7 @@ use Rattle.error.proofs.OneAnswer.{one_refusal, one_check}
 use Rattle.plan.specs.Rows.{as_rows_verdict}
 use Rattle.plan.proofs.rows.Row.is_protected.Reads as is-protected
 use Rattle.plan.proofs.rows.Row.plane_words.Reads as plane-words
+use Rattle.plan.proofs.rows.Row.regions.Reads as row-regions
 use Rattle.plan.proofs.kinds.Kinds.new.Reads as new-kinds
 use Rattle.plan.proofs.kinds.Kinds.contains.Reads as contains-kind
 use Rattle.plan.proofs.kinds.Kinds.insert.Reads as insert-kind
@@ -35,6 +36,9 @@ one_answer_is_protected κs a r r' s s' p q = agree p q
 
 pub one_answer_plane_words : OneAnswer plane-words.Learnt
 one_answer_plane_words κs a r r' s s' p q = agree p.0 q.0
+
+pub one_answer_regions : OneAnswer row-regions.Learnt
+one_answer_regions κs a r r' s s' p q = agree p.0 q.0
 
 pub one_answer_new : OneAnswer new-kinds.Learnt
 one_answer_new κs a r r' s s' p q = λ j. record { bits = agree p q j }

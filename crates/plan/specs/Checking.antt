@@ -1,4 +1,4 @@
--- Steps of code, for private contracts; no statement of the demands speaks of them. A row's checks, and the kinds seen so far: 1024 words, a bit for each kind. (FORMAT 9)
+-- Steps of code, for the contracts of building blocks that the writer calls; no statement of the demands speaks of them. A row's checks, and the kinds seen so far: 1024 words, a bit for each kind. (FORMAT 9)
 use Rattle.std.specs.Prelude.{ℕ, ◌/◌, ◌%◌, ◌^◌, Bool, cond, ◌||◌, List, bit_or, nat_lt, slice_index, slice_set}
 use Rattle.bits.specs.Bit.{bit}
 use Rattle.model.specs.Layout.{has_ecc}

@@ -7,7 +7,7 @@ const KIND_WORDS: usize = 1024;
 
 // A bit for each kind, so that a kind is looked up at once, also in a plan of more rows than an image can have.
 // The sets of std lie on the heap, which no library of this project uses.
-#[derive(Drop)]
+#[derive(Clone, Copy)]
 pub struct Kinds {
     bits: [u64; KIND_WORDS],
 }

@@ -42,7 +42,7 @@ impl Row {
     }
 
     // The row's region, and its plane if it has one.
-    fn regions(self) -> usize
+    pub fn regions(self) -> usize
         ensures is { result ≡ regions_of self.flags }
         ensures few { result ≤ 2 }
     {
