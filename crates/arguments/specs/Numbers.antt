@@ -1,8 +1,8 @@
--- The invocation that eight numbers stand for. A number that stands for nothing of its own is taken as the one that means the same: a command past the last takes no file, as the last; more files than two are several; any other state reads the next argument as it comes; any other fault is the last one's. (FORMAT 14)
-use Rattle.std.specs.Prelude.{cond, ℕ, Option, Some, None, eqb}
-use Rattle.arguments.specs.Arguments.{numbered, fault_numbered}
+-- The invocation that eight numbers stand for. A number that stands for nothing of its own is taken as the one that means the same: a command past the last takes no file, as the last; more files than two are several; any other state reads the next argument as it comes; any other fault is the last one's. (docs/DECISIONS.md)
+use Rattle.std.specs.Prelude.{cond, ℕ, Option, Some, None, Ok, Err, eqb}
+use Rattle.arguments.specs.Arguments.{command_numbered, numbered, fault_numbered}
 use Rattle.arguments.specs.declared.words.Command.{Command}
-use Rattle.arguments.specs.declared.words.Command.TheVariants.{Report, Mend, Help, Version}
+use Rattle.arguments.specs.declared.words.Command.TheVariants.{Version}
 use Rattle.arguments.specs.declared.invocation.Files.{Files}
 use Rattle.arguments.specs.declared.invocation.Files.TheVariants as files
 use Rattle.arguments.specs.declared.invocation.Next.{Next}
@@ -12,12 +12,7 @@ use Rattle.arguments.specs.declared.invocation.Invocation.{Invocation}
 use Rattle.arguments.specs.declared.numbers.Numbers.{Numbers}
 
 abbrev pub command_of : ℕ → Option Command
-command_of n =
-    cond (eqb n 0) None
-    (cond (eqb n 1) (Some Report)
-    (cond (eqb n 2) (Some Mend)
-    (cond (eqb n 3) (Some Help)
-    (Some Version))))
+command_of n = cond (eqb n 0) None (elim (command_numbered n) [ Ok c ↦ Some c | Err e ↦ Some Version ])
 
 abbrev pub files_of : ℕ → ℕ → Files
 files_of n first =

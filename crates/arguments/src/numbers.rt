@@ -1,4 +1,4 @@
-// An invocation by numbers, as it was before commands, faults and files were types. (FORMAT 14)
+// An invocation told by eight numbers, for callers who keep one so. (docs/DECISIONS.md)
 ghost use Rattle.std.specs.Prelude.{◌≡◌};
 ghost use Rattle.arguments.specs.Numbers as model;
 
@@ -22,12 +22,10 @@ pub struct Numbers {
 fn command(number: u8) -> Option<Command>
     ensures { result ≡ model.command_of number }
 {
-    match number {
-        0 => None,
-        1 => Some(Command::Report),
-        2 => Some(Command::Mend),
-        3 => Some(Command::Help),
-        _ => Some(Command::Version),
+    match (number, Command::try_from(number)) {
+        (0, _) => None,
+        (_, Ok(command)) => Some(command),
+        (_, Err(_)) => Some(Command::Version),
     }
 }
 

@@ -13,7 +13,7 @@ use super::{COLUMNS, EccReport, WordStatus, one_if_corrected, plane_words, statu
 pub const EMPTY_TABLE: [u8; 2048] = [0u8; 2048];
 
 // The table of check bytes, in a buffer that is lent: a copy of it is a pointer. Returned by value, the buffer itself would be
-// copied by `memcpy`, and firmware may have none. It takes less than a microsecond to fill: fill it once for many words, and hand it on.
+// copied by `memcpy`, and firmware may have none.
 #[derive(Clone, Copy)]
 pub struct CheckTable<'a> {
     entries: &'a [u8; 2048],

@@ -51,7 +51,7 @@ fn read_link(rt: &HostRuntime, name: &[u8], link: &mut Name<4096>) -> Result<(),
     }
 }
 
-// Becomes the name that a link of this name leads to.
+// `target` becomes the name that its link, with this text, leads to.
 fn follow(target: &mut Name<8192>, link: &[u8]) {
     let mut next = [0u8; 8192];
     let len = paths::followed(target.as_bytes(), link, &mut next);

@@ -16,9 +16,10 @@ pub returns-in-Clean : goal.returns-in-Clean
 returns-in-Clean c =
     let u = c.u64_or_zero-data in
     let g = c.args in
+    let d = read_part g.bytes.now (8 * g.word) u.result (omega (arith, c.requires.0)) u.ensures in
     record {
-      is = decoded g.bytes.now g.word g.check u.result c.requires.0 (read_part g.bytes.now (8 * g.word) u.result (omega (arith, c.requires.0)) u.ensures) c.decode_word-status.ensures;
-      stores = kept_clean g.with_check g.bytes.now (record { word = g.word; check = g.check }) _ (decoded g.bytes.now g.word g.check u.result c.requires.0 (read_part g.bytes.now (8 * g.word) u.result (omega (arith, c.requires.0)) u.ensures) c.in-Clean.ensures);
+      is = decoded g.bytes.now g.word g.check u.result c.requires.0 d c.decode_word-status.ensures;
+      stores = kept_clean g.with_check g.bytes.now (record { word = g.word; check = g.check }) _ (decoded g.bytes.now g.word g.check u.result c.requires.0 d c.in-Clean.ensures);
     }
 
 pub shape_of-bytes-in-Corrected : goal.shape_of-bytes-in-Corrected
@@ -28,10 +29,11 @@ pub returns-in-Corrected : goal.returns-in-Corrected
 returns-in-Corrected c =
     let u = c.u64_or_zero-data in
     let g = c.args in
+    let d = read_part g.bytes.now (8 * g.word) u.result (omega (arith, c.requires.0)) u.ensures in
     let v = c.in-Corrected.fixed in
     let y = c.store_check.new.bytes in
     let a = 8 * g.word in
-    let e = decoded g.bytes.now g.word g.check u.result c.requires.0 (read_part g.bytes.now (8 * g.word) u.result (omega (arith, c.requires.0)) u.ensures) c.in-Corrected.ensures in record {
+    let e = decoded g.bytes.now g.word g.check u.result c.requires.0 d c.in-Corrected.ensures in record {
       is = e;
       stores = ap (put_mid a (a + 8 - a) y) c.store_word.ensures
           ∙ (came_back y (le_bytes 8 v) a 8 (length_le_bytes 8 v) (omega (arith, c.requires.0, c.store_check.auto.bytes)) refl).stored
@@ -42,7 +44,8 @@ pub returns-in-Uncorrectable : goal.returns-in-Uncorrectable
 returns-in-Uncorrectable c =
     let u = c.u64_or_zero-data in
     let g = c.args in
+    let d = read_part g.bytes.now (8 * g.word) u.result (omega (arith, c.requires.0)) u.ensures in
     record {
-      is = decoded g.bytes.now g.word g.check u.result c.requires.0 (read_part g.bytes.now (8 * g.word) u.result (omega (arith, c.requires.0)) u.ensures) c.decode_word-status.ensures;
-      stores = kept_uncorrectable g.with_check g.bytes.now (record { word = g.word; check = g.check }) (decoded g.bytes.now g.word g.check u.result c.requires.0 (read_part g.bytes.now (8 * g.word) u.result (omega (arith, c.requires.0)) u.ensures) c.in-Uncorrectable.ensures);
+      is = decoded g.bytes.now g.word g.check u.result c.requires.0 d c.decode_word-status.ensures;
+      stores = kept_uncorrectable g.with_check g.bytes.now (record { word = g.word; check = g.check }) (decoded g.bytes.now g.word g.check u.result c.requires.0 d c.in-Uncorrectable.ensures);
     }
